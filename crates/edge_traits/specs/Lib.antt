@@ -1,1 +1,3 @@
+pub mod Fakes
 pub mod Faults
+pub mod Streams

@@ -1,0 +1,6 @@
+use Rattle.clone_values.specs.View.{prop_of}
+use Rattle.clone_values.proofs.Places.{stands_from_got}
+use Rattle.clone_values.proofs.value_types.Props.at.Goals as goal
+
+pub returns-clause-stands : goal.returns-clause-stands
+returns-clause-stands c = stands_from_got prop_of _ _ _ _ _ c.self.view_is c.deref.ensures.value c.get.ensures.lookup.3 c.get.ensures.lookup.1

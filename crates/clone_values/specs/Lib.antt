@@ -1,0 +1,5 @@
+pub mod Limits
+pub mod Tree
+pub mod KeyTree
+pub mod View
+pub mod Falls

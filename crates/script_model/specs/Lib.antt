@@ -1,0 +1,4 @@
+pub mod Document
+pub mod FirstForm
+pub mod FirstResults
+pub mod Reading
