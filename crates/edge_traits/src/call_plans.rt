@@ -6,10 +6,9 @@ ghost use Rattle.edge_traits.specs.Fakes.{CountsCall, IsListed, no_calls};
 use crate::Failed;
 use std::marker::Model;
 
-// The calls of a fake, numbered from 1, and the list of those that are to fail. A look-up goes
-// through the whole list.
+/// The calls of a fake, numbered from 1, and the list of those that are to fail. A look-up goes through the whole list.
 #[derive(Drop)]
-pub(crate) struct CallPlan {
+pub struct CallPlan {
     made: u64,
     fail_at: Vec<u64>,
     faults: u64,
@@ -24,7 +23,8 @@ impl Model for CallPlan {
 }
 
 impl CallPlan {
-    pub(crate) fn new(fail_at: Vec<u64>) -> Self
+    /// No call was made yet; those with these numbers are to fail.
+    pub fn new(fail_at: Vec<u64>) -> Self
         ensures { result ≡ no_calls fail_at.items }
     {
         CallPlan {
@@ -34,8 +34,22 @@ impl CallPlan {
         }
     }
 
-    // Counts a call that fails where its number is listed, or where the caller says that it must.
-    pub(crate) fn count(&mut self, must_fail: bool) -> Result<(), Failed>
+    /// How many calls were made. A count of 64 bits stands still at its end.
+    pub fn made(&self) -> u64
+        ensures { result ≡ self.now.made }
+    {
+        self.made
+    }
+
+    /// How many calls failed. A count of 64 bits stands still at its end.
+    pub fn faults(&self) -> u64
+        ensures { result ≡ self.now.faults }
+    {
+        self.faults
+    }
+
+    /// Counts a call, which fails where its number is listed, or where the caller says that it must.
+    pub fn count(&mut self, must_fail: bool) -> Result<(), Failed>
         ensures failed { IsErr result ↔ (IsListed self.old ⊎ IsTrue must_fail) }
         ensures counted { CountsCall self.old self.new result }
         ensures fault { HasFaultCause self.old.faults self.new.faults result }

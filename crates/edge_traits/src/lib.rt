@@ -14,6 +14,7 @@ mod sources;
 #[cfg(test)]
 mod tests;
 
+pub use call_plans::CallPlan;
 pub use gates::{Gate, OpenGate};
 pub use memory_sinks::MemorySink;
 pub use memory_sources::{MemorySource, SteadySource};
