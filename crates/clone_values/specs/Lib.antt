@@ -3,3 +3,8 @@ pub mod Tree
 pub mod KeyTree
 pub mod View
 pub mod Falls
+pub mod Values
+pub mod Sameness
+pub mod Names
+pub mod WellFormed
+pub mod Characters

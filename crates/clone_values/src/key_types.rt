@@ -1,5 +1,5 @@
 // Keys and their list. Contracts see a key as its plain key tree, and a list as the list of these.
-ghost use Rattle.std.specs.Prelude.{◌≡◌, ℕ, List, [], ◌∷◌, ◌++◌, length, map, slice_get, option_map, IfSome, OnOk, OnErr};
+ghost use Rattle.std.specs.Prelude.{◌≡◌, ℕ, ◌≤◌, List, [], ◌∷◌, ◌++◌, length, map, slice_get, option_map, IfOk, IfSome, IfNone, OnOk, OnErr};
 ghost use Rattle.std.specs.Option.{option_copied};
 ghost use Rattle.clone_values.specs.Limits.{HasRoom, StandsAt};
 ghost use Rattle.clone_values.specs.View.{key_tree_of};
@@ -23,7 +23,7 @@ pub enum Key {
 #[cycle(key)]
 #[derive(Drop)]
 pub struct Keys {
-    keys: Vec<Key>,
+    pub(crate) keys: Vec<Key>,
 }
 
 impl Model for Keys {
@@ -68,6 +68,7 @@ impl Keys {
     pub fn at(&self, place: usize) -> Option<&Key>
         ensures item { option_map key_tree_of (option_copied result) ≡ slice_get self.now place }
         ensures stands { IfSome result (λ x. StandsAt self.now place (key_tree_of x.now)) }
+        ensures past_end { IfNone result (length self.now ≤ place) }
     {
         self.keys.get(place)
     }
@@ -81,4 +82,35 @@ impl Keys {
         self.keys.push(item)?;
         Ok(())
     }
+}
+
+impl Key {
+    /// An equal key.
+    #[cycle(copy_key)]
+    #[tactic(auto, using(crate::specs::Falls::smaller_key))]
+    pub fn copy(&self, alloc: Global) -> Result<Key, NoMemory>
+        ensures { IfOk result (λ r. r ≡ self.now) }
+    {
+        match self {
+            Key::Number(n) => Ok(Key::Number(*n)),
+            Key::Date(d) => Ok(Key::Date(*d)),
+            Key::Text(s) => Ok(Key::Text(s.copy(alloc)?)),
+            Key::Binary(b) => Ok(Key::Binary(b.copy(alloc)?)),
+            Key::Array(keys) => Ok(Key::Array(copy_keys(alloc, keys)?)),
+        }
+    }
+}
+
+#[cycle(copy_key)]
+#[tactic(auto, using(crate::specs::Falls::smaller_key))]
+fn copy_keys(alloc: Global, keys: &Keys) -> Result<Keys, NoMemory>
+    ensures { IfOk result (λ r. r ≡ keys.now) }
+{
+    let mut copies = Keys::new(alloc);
+    for place in 0..keys.len() {
+        if let Some(key) = keys.at(place) {
+            copies.keys.push(key.copy(alloc)?)?;
+        }
+    }
+    Ok(copies)
 }

@@ -1,5 +1,5 @@
 // Texts, byte strings and lists of numbers: small types over `String` and `Vec` that contracts see as lists.
-ghost use Rattle.std.specs.Prelude.{◌≡◌, ℕ, List, [], ◌∷◌, ◌++◌, length, string_bytes, slice_get, IfSome, OnOk, OnErr, IfOk};
+ghost use Rattle.std.specs.Prelude.{◌≡◌, ℕ, ◌≤◌, List, [], ◌∷◌, ◌++◌, length, string_bytes, slice_get, IfSome, IfNone, OnOk, OnErr, IfOk};
 ghost use Rattle.std.specs.Option.{option_copied};
 ghost use Rattle.std.specs.Str.{IsUtf8};
 ghost use Rattle.clone_values.specs.Limits.{IsWithinLimit, HasRoom, StandsAt};
@@ -53,6 +53,15 @@ impl Text {
         Text { text }
     }
 
+    /// An equal text.
+    pub fn copy(&self, alloc: Global) -> Result<Text, NoMemory>
+        ensures { IfOk result (λ t. t ≡ self.now) }
+    {
+        Ok(Text {
+            text: String::from_str(alloc, self.text.as_str())?,
+        })
+    }
+
     /// The characters.
     pub fn as_str(&self) -> &str
         ensures value { result.now ≡ self.now }
@@ -95,6 +104,7 @@ impl Texts {
     pub fn at(&self, place: usize) -> Option<&Text>
         ensures item { option_copied result ≡ slice_get self.now place }
         ensures stands { IfSome result (λ x. StandsAt self.now place x.now) }
+        ensures past_end { IfNone result (length self.now ≤ place) }
     {
         self.texts.get(place)
     }
@@ -107,6 +117,17 @@ impl Texts {
     {
         self.texts.push(item)?;
         Ok(())
+    }
+
+    /// An equal list.
+    pub fn copy(&self, alloc: Global) -> Result<Texts, NoMemory>
+        ensures { IfOk result (λ t. t ≡ self.now) }
+    {
+        let mut copies = Vec::new(alloc);
+        for text in &self.texts {
+            copies.push(text.copy(alloc)?)?;
+        }
+        Ok(Texts { texts: copies })
     }
 }
 
@@ -143,6 +164,7 @@ impl Bytes {
     pub fn at(&self, place: usize) -> Option<&u8>
         ensures item { option_copied result ≡ slice_get self.now place }
         ensures stands { IfSome result (λ x. StandsAt self.now place x.now) }
+        ensures past_end { IfNone result (length self.now ≤ place) }
     {
         self.bytes.get(place)
     }
@@ -155,6 +177,15 @@ impl Bytes {
     {
         self.bytes.push(item)?;
         Ok(())
+    }
+
+    /// An equal byte string.
+    pub fn copy(&self, alloc: Global) -> Result<Bytes, NoMemory>
+        ensures { IfOk result (λ b. b ≡ self.now) }
+    {
+        Ok(Bytes {
+            bytes: Vec::from_slice(alloc, self.bytes.as_slice())?,
+        })
     }
 
     /// All bytes in order.
@@ -198,6 +229,7 @@ impl Numbers {
     pub fn at(&self, place: usize) -> Option<&u64>
         ensures item { option_copied result ≡ slice_get self.now place }
         ensures stands { IfSome result (λ x. StandsAt self.now place x.now) }
+        ensures past_end { IfNone result (length self.now ≤ place) }
     {
         self.numbers.get(place)
     }

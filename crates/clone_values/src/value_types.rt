@@ -1,11 +1,15 @@
 // Values and their lists. Contracts see an item as its plain tree, and a list as the list of these.
-ghost use Rattle.std.specs.Prelude.{◌≡◌, ℕ, List, [], ◌∷◌, ◌++◌, length, map, slice_get, option_map, IfSome, OnOk, OnErr};
+ghost use Rattle.std.specs.Prelude.{◌≡◌, ℕ, ◌<◌, ◌≤◌, true, List, [], ◌∷◌, ◌++◌, length, map, slice_get, option_map, slice_set, vec_len, IfOk, IfErr, IfSome, IfNone, OnOk, OnErr};
 ghost use Rattle.std.specs.Option.{option_copied};
 ghost use Rattle.clone_values.specs.Limits.{HasRoom, StandsAt};
+ghost use Rattle.std.specs.List.{insert};
+ghost use Rattle.clone_values.specs.Tree.{Tree};
+ghost use Rattle.clone_values.specs.Names.{is_rising, names_of, set_member, get_member};
 ghost use Rattle.clone_values.specs.View.{tree_of, prop_of, pair_of};
 
 use crate::small_lists::{Bytes, NoMemory, Text};
 use std::alloc::Global;
+use std::cmp::Ordering;
 use std::marker::Model;
 
 /// A value that scripts store and clone (HTML, StructuredSerializeForStorage, cut to whole numbers and acyclic values).
@@ -48,7 +52,7 @@ pub struct Pair {
 #[cycle(value)]
 #[derive(Drop)]
 pub struct Items {
-    items: Vec<Value>,
+    pub(crate) items: Vec<Value>,
 }
 
 impl Model for Items {
@@ -93,6 +97,7 @@ impl Items {
     pub fn at(&self, place: usize) -> Option<&Value>
         ensures item { option_map tree_of (option_copied result) ≡ slice_get self.now place }
         ensures stands { IfSome result (λ x. StandsAt self.now place (tree_of x.now)) }
+        ensures past_end { IfNone result (length self.now ≤ place) }
     {
         self.items.get(place)
     }
@@ -112,11 +117,11 @@ impl Items {
 #[cycle(value)]
 #[derive(Drop)]
 pub struct Props {
-    props: Vec<Prop>,
+    pub(crate) props: Vec<Prop>,
 }
 
 impl Model for Props {
-    ghost use Rattle.std.specs.Prelude.{ℕ, List, map};
+    ghost use Rattle.std.specs.Prelude.{◌≡◌, ℕ, List, map, true};
     ghost use Rattle.std.specs.Coded.{coded_ℕ, coded_list, coded×};
     ghost use Rattle.clone_values.specs.Tree.{Tree, tree_code, members_size, members_of};
 
@@ -127,6 +132,10 @@ impl Model for Props {
     ghost use Rattle.clone_values.specs.View.{prop_of};
 
     ghost view = { λ a. map prop_of a.props.items };
+
+    ghost use Rattle.clone_values.specs.Names.{is_rising, names_of};
+
+    ghost invariant = { λ a. is_rising (names_of (map prop_of a.props.items)) ≡ true };
 
     ghost size = { λ ms. members_size (members_of ms) };
 
@@ -146,9 +155,10 @@ impl Props {
         }
     }
 
-    /// How many properties there are.
+    /// How many properties there are. Their names rise.
     pub fn len(&self) -> usize
-        ensures { result ≡ length self.now }
+        ensures count { result ≡ length self.now }
+        ensures rising { is_rising (names_of self.now) ≡ true }
     {
         self.props.len()
     }
@@ -157,16 +167,88 @@ impl Props {
     pub fn at(&self, place: usize) -> Option<&Prop>
         ensures item { option_map prop_of (option_copied result) ≡ slice_get self.now place }
         ensures stands { IfSome result (λ x. StandsAt self.now place (prop_of x.now)) }
+        ensures past_end { IfNone result (length self.now ≤ place) }
     {
         self.props.get(place)
     }
+
+    /// Sets the property of this name: in its place where there is one, else before the first greater name.
+    pub fn set(&mut self, name: Text, value: Value) -> Result<(), NoMemory>
+        requires { HasRoom self.old }
+        ensures stored { OnOk result (self.new ≡ set_member self.old name (tree_of value)) }
+        ensures rising { is_rising (names_of self.new) ≡ true }
+        ensures unchanged { OnErr result (self.new ≡ self.old) }
+    {
+        match self.place_of(name.as_str()) {
+            Ok(place) => {
+                replace_prop(&mut self.props, place, Prop { name, value });
+                Ok(())
+            }
+            Err(place) => insert_prop(&mut self.props, place, Prop { name, value }),
+        }
+    }
+
+    /// The value of the property of this name; `None` where there is none. It takes no memory.
+    pub fn get(&self, name: &Text) -> Option<&Value>
+        ensures { option_map tree_of (option_copied result) ≡ get_member self.now name.now }
+    {
+        for place in 0..self.len() {
+            if let Some(prop) = self.at(place) {
+                if prop.name.as_str() == name.as_str() {
+                    return Some(&prop.value);
+                }
+            }
+        }
+        None
+    }
+
+    /// The place of this name, or the place where it would stand.
+    fn place_of(&self, name: &str) -> Result<usize, usize>
+        ensures found { IfOk result (λ i. (i < length self.now) × ((v : Tree) → set_member self.now name.now v ≡ slice_set self.now i (name.now, v))) }
+        ensures absent { IfErr result (λ i. (i ≤ length self.now) × ((v : Tree) → set_member self.now name.now v ≡ insert self.now i (name.now, v))) }
+    {
+        let count = self.len();
+        if count > 0 {
+            if let Some(last) = self.at(count - 1) {
+                if let Ordering::Greater = name.cmp(last.name.as_str()) {
+                    return Err(count);
+                }
+            }
+        }
+        for place in 0..count {
+            if let Some(prop) = self.at(place) {
+                match name.cmp(prop.name.as_str()) {
+                    Ordering::Less => return Err(place),
+                    Ordering::Equal => return Ok(place),
+                    Ordering::Greater => {}
+                }
+            }
+        }
+        Err(count)
+    }
+}
+
+fn replace_prop(props: &mut Vec<Prop>, place: usize, prop: Prop)
+    requires { place < vec_len props.old }
+    ensures { map prop_of props.new.items ≡ slice_set (map prop_of props.old.items) place (prop_of prop) }
+{
+    props[place] = prop;
+}
+
+fn insert_prop(props: &mut Vec<Prop>, place: usize, prop: Prop) -> Result<(), NoMemory>
+    requires { place ≤ vec_len props.old }
+    ensures inserted { OnOk result (map prop_of props.new.items ≡ insert (map prop_of props.old.items) place (prop_of prop)) }
+    ensures unchanged { OnErr result (props.new.items ≡ props.old.items) }
+{
+    props.insert(place, prop)?;
+    Ok(())
 }
 
 /// The entries of a Map, each key once.
 #[cycle(value)]
 #[derive(Drop)]
 pub struct Pairs {
-    pairs: Vec<Pair>,
+    pub(crate) pairs: Vec<Pair>,
 }
 
 impl Model for Pairs {
@@ -211,6 +293,7 @@ impl Pairs {
     pub fn at(&self, place: usize) -> Option<&Pair>
         ensures item { option_map pair_of (option_copied result) ≡ slice_get self.now place }
         ensures stands { IfSome result (λ x. StandsAt self.now place (pair_of x.now)) }
+        ensures past_end { IfNone result (length self.now ≤ place) }
     {
         self.pairs.get(place)
     }

@@ -1,8 +1,8 @@
 -- A document's lists and objects beside the vectors and maps that they are kept in.
-use Rattle.std.proofs.Common.{◌≡◌, ◌≢◌, ℕ, zero, suc, List, [], ◌∷◌, length, Option, Some, None, option_map, refl, sym, ap, ◌∙◌, cond, nat_eq, eq-eqb, String, Global, arith}
+use Rattle.std.proofs.Common.{◌≡◌, ◌≢◌, ℕ, List, [], ◌∷◌, length, Some, None, option_map, refl, ◌∙◌, cond, nat_eq, eq-eqb, String, Global, arith}
 use Rattle.std.proofs.lemmas.Bool.{ne_eqb}
 use Rattle.std.specs.List.{slice_get}
-use Rattle.serde_json.specs.Data.{Data, null, boolean, number, string, array, object, Items, no_items, item, Members}
+use Rattle.serde_json.specs.Data.{Data, null, boolean, number, string, array, object, Items, Members}
 use Rattle.serde_json.specs.Events.{members_len}
 use Rattle.serde_json.specs.Find.{get, as_object, as_array}
 use Rattle.serde_json.specs.View.{view, items_view, members_view}

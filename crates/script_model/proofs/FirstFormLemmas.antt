@@ -1,5 +1,5 @@
 -- What the reader computes is what the first form says, in both directions.
-use Rattle.std.proofs.Common.{◌≡◌, ◌≢◌, ℕ, ℤ, ◌≤◌, ◌&&◌, List, [], ◌∷◌, length, Option, Some, None, option_map, option_and_then, Bool, true, false, not, cond, nat_eq, nat_le, le-leb, refl, sym, ap, ◌∙◌, codes, arith, subst, true≢false, Result, Ok, Err, IfOk, MatchResult}
+use Rattle.std.proofs.Common.{◌≡◌, ◌≢◌, ℕ, ◌≤◌, ◌&&◌, List, [], ◌∷◌, length, Option, Some, None, option_map, option_and_then, Bool, true, false, not, cond, nat_eq, nat_le, le-leb, refl, sym, ap, ◌∙◌, codes, subst, true≢false, Result, Ok, Err, IfOk, MatchResult}
 use Rattle.std.specs.Prelude.{IsErrOf}
 use Rattle.std.specs.Str.{IsUtf8}
 use Rattle.serde_json.specs.Read.{read}
@@ -11,7 +11,7 @@ use Rattle.serde_json.specs.Data.{Data, null, boolean, number, string, array, ob
 use Rattle.serde_json.specs.Events.{members_len}
 use Rattle.serde_json.specs.Find.{as_array, as_str, get_member}
 use Rattle.script_model.specs.Document.{member_of, text_of, int_of, single_of}
-use Rattle.script_model.specs.FirstForm.{AreDistinct, IsPut, IsGet, IsStep, AreSteps, IsOpen, IsCreation, IsTransaction, AreFirstBlocks, IsFirstDocument, IsFirst}
+use Rattle.script_model.specs.FirstForm.{AreDistinct, IsStep, AreSteps, IsOpen, IsCreation, IsTransaction, AreFirstBlocks, IsFirstDocument, IsFirst}
 use Rattle.script_model.specs.Reading.{given, is_text, says, put_in, get_in, step_in, steps_in, open_in, creation_in, transaction_in, are_distinct, body_in, blocks_in, first_in, Gives}
 use Rattle.script_model.specs.declared.first.FirstError.{FirstError}
 use Rattle.script_model.specs.declared.first.FirstError.TheVariants.{NotBuilt, NoMemory}

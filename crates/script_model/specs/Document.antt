@@ -1,6 +1,6 @@
 -- Looking into a JSON document whose objects have just the members that are named.
 use Rattle.std.specs.Prelude.{◌^◌, ◌-ℤ◌, ◌&&◌, ◌==◌, ℕ, ℤ, pos, int_le, if◌then◌else◌, List, Option, Some, None, option_and_then}
-use Rattle.serde_json.specs.Data.{Data, null, boolean, number, string, array, object, Items, no_items, item}
+use Rattle.serde_json.specs.Data.{Data, null, boolean, number, string, array, object, no_items, item}
 use Rattle.serde_json.specs.Events.{members_len}
 use Rattle.serde_json.specs.Find.{get_member, as_str, as_number, as_i64}
 

@@ -3,7 +3,7 @@ use Rattle.std.specs.Prelude.{◌+◌, ℕ, ℤ, if◌then◌else◌, List, [], 
 use Rattle.std.specs.Fmt.{decimal, signed_decimal}
 use Rattle.std.specs.Option.{option_or}
 use Rattle.std.specs.Ordering.{int_eq}
-use Rattle.clone_values.specs.Tree.{Tree, undefined, null, boolean, int, text, date, bytes, array, object, map_object, set_object, function}
+use Rattle.clone_values.specs.Tree.{Tree, undefined, int}
 use Rattle.script_model.specs.declared.first.FirstStep.{FirstStep}
 use Rattle.script_model.specs.declared.first.FirstStep.TheVariants.{Put, Get}
 

@@ -1,4 +1,4 @@
-use Rattle.std.proofs.Common.{◌<◌, length, List, [], ◌∷◌, ◌++◌, ap, ◌∙◌, arith, length-append}
+use Rattle.std.proofs.Common.{◌<◌, length, [], ◌∷◌, ◌++◌, ap, ◌∙◌, arith, length-append}
 use Rattle.std.specs.BTreeMap.{get}
 use Rattle.std.specs.Ordering.{int_cmp}
 use Rattle.clone_values.specs.View.{tree_of}

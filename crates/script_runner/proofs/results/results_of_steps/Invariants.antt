@@ -1,4 +1,4 @@
-use Rattle.std.proofs.Common.{◌≡◌, ◌++◌, ◌≤◌, ℤ, length, take, drop}
+use Rattle.std.proofs.Common.{◌≡◌, ◌++◌, ℤ, length, take, drop}
 use Rattle.std.specs.Ordering.{int_cmp}
 use Rattle.std.specs.BTreeMap.{get}
 use Rattle.script_model.specs.FirstResults.{last_put, results_after, results_of}

@@ -1,6 +1,4 @@
-use Rattle.std.proofs.Common.{Err, ap, sym, ◌∙◌}
 use mathlib.Core.Logic.{inl, inr}
-use Rattle.script_runner.specs.declared.scripts.NoScript.TheVariants.{NotBuilt, NoMemory}
 use Rattle.script_runner.proofs.run.run.Goals as goal
 
 pub returns-in-Err-NotBuilt-clause-complete : goal.returns-in-Err-NotBuilt-clause-complete

@@ -1,5 +1,4 @@
-use Rattle.std.proofs.Common.{◌≡◌, ◌<◌, List, ℕ, Err, ap, subst, sym, ◌∙◌, inr, vec_len, arith}
-use Rattle.std.specs.Io.KnownBytes.{IsAtEnd}
+use Rattle.std.proofs.Common.{◌<◌, Err, ap, subst, sym, ◌∙◌, inr, vec_len, arith}
 use Rattle.script_model.specs.FirstForm.{IsFirst}
 use Rattle.script_runner.proofs.Inputs.{read_whole}
 use Rattle.script_runner.proofs.scripts.read_script.Goals as goal

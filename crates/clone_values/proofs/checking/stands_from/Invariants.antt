@@ -1,0 +1,9 @@
+use Rattle.std.proofs.Common.{◌≡◌, drop}
+use Rattle.std.specs.List.{list_any}
+use Rattle.clone_values.specs.View.{tree_of}
+use Rattle.clone_values.specs.Sameness.{repeats}
+use Rattle.clone_values.proofs.checking.stands_from.Given as goal
+
+-- the items so far are others
+abbrev pub invariant-loop-place : goal.invariant-loop-place
+invariant-loop-place l = list_any (λ s. repeats (tree_of l.item) s) (drop l.place l.items) ≡ list_any (λ s. repeats (tree_of l.item) s) (drop l.from l.items)

@@ -1,0 +1,72 @@
+-- Well formed values: the ranges, sizes, names and members that a value keeps to.
+--     is_value, IsValue     the rules for the whole tree
+--     is_int, is_date       the ranges of numbers and of dates
+--     are_once              no primitive stands twice
+--     is_array_name         what a named property of an Array may be called
+use Rattle.std.specs.Prelude.{◌≡◌, ℕ, Bool, true, not, ◌&&◌, ◌==◌, nat_eq, nat_le, ℤ, pos, negsuc, List, [], ◌∷◌, map, length, codes}
+use Rattle.std.specs.List.{list_any, list_all}
+use Rattle.std.specs.Ordering.{int_cmp, is_le}
+use Rattle.std.specs.Cmp.Lexicographic.{pointwise}
+use Rattle.clone_values.specs.Tree.{Tree, Trees, Members, PairTrees, int, text, date, bytes, array, object, map_object, set_object, no_trees, tree_more, no_members, member_more, no_pairs, pair_more, list_of_trees, list_of_members, list_of_pairs}
+use Rattle.clone_values.specs.Names.{names_of, is_rising}
+use Rattle.clone_values.specs.Sameness.{repeats}
+
+-- from -2^53 to 2^53
+abbrev pub is_int : ℤ → Bool
+is_int n = is_le (int_cmp (negsuc 9007199254740991) n) && is_le (int_cmp n (pos 9007199254740992))
+
+-- a date's milliseconds, from -8,640,000,000,000,000 to 8,640,000,000,000,000 (ECMAScript, Time Values)
+abbrev pub is_date : ℤ → Bool
+is_date d = is_le (int_cmp (negsuc 8639999999999999) d) && is_le (int_cmp d (pos 8640000000000000))
+
+-- at most 4,294,967,295 bytes or members
+abbrev pub is_within_limit : {A : Type 0} → List A → Bool
+is_within_limit xs = nat_le (length xs) 4294967295
+
+-- a primitive stands at its first place alone
+abbrev pub are_once : List Tree → Bool
+are_once [] = true
+are_once (t ∷ ts) = not (list_any (λ s. repeats t s) ts) && are_once ts
+
+abbrev pub is_digit : ℕ → Bool
+is_digit b = nat_le 48 b && nat_le b 57
+
+-- one digit or more, and nothing else
+abbrev pub are_digits : List ℕ → Bool
+are_digits n = list_all is_digit n && not (length n == 0)
+
+-- neither `length` nor digits alone, which name the items
+abbrev pub is_array_name : List ℕ → Bool
+is_array_name n = not (pointwise nat_eq n (codes "length")) && not (are_digits n)
+
+-- the names rise strictly, and are texts of a stored size, as is their list
+abbrev pub are_properties : List (List ℕ × Tree) → Bool
+are_properties ms = is_within_limit ms && list_all is_within_limit (names_of ms) && is_rising (names_of ms)
+
+abbrev mutual
+  pub is_value : Tree → Bool
+  is_value (int n) = is_int n
+  is_value (date d) = is_date d
+  is_value (text s) = is_within_limit s
+  is_value (bytes b) = is_within_limit b
+  is_value (array ts ms) = are_values ts && is_within_limit (list_of_trees ts) && member_values ms && are_properties (list_of_members ms) && list_all is_array_name (names_of (list_of_members ms))
+  is_value (object ms) = member_values ms && are_properties (list_of_members ms)
+  is_value (map_object ps) = pair_values ps && is_within_limit (list_of_pairs ps) && are_once (map (λ p. p.0) (list_of_pairs ps))
+  is_value (set_object ts) = are_values ts && is_within_limit (list_of_trees ts) && are_once (list_of_trees ts)
+  is_value _ = true
+
+  pub are_values : Trees → Bool
+  are_values no_trees = true
+  are_values (tree_more t ts) = is_value t && are_values ts
+
+  pub member_values : Members → Bool
+  member_values no_members = true
+  member_values (member_more n t ms) = is_value t && member_values ms
+
+  pub pair_values : PairTrees → Bool
+  pair_values no_pairs = true
+  pair_values (pair_more s t ps) = is_value s && is_value t && pair_values ps
+
+-- the tree is a well formed value
+abbrev pub IsValue : Tree → Type 0
+IsValue t = is_value t ≡ true

@@ -1,0 +1,6 @@
+pub mod ChangeAndSync
+pub mod Gate
+pub mod Lengths
+pub mod Overwrites
+pub mod Restart
+pub mod SinceSync

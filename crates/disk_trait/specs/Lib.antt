@@ -1,0 +1,15 @@
+pub use Rattle.edge_traits.specs.Faults
+pub use Rattle.edge_traits.specs.Fakes
+pub mod AreBoth
+pub mod Areas
+pub mod Disk
+pub mod IsContent
+pub mod IsDisk
+pub mod IsHeld
+pub mod IsLog
+pub mod Laws
+pub mod Memory
+pub mod MemoryLaws
+pub mod Moments
+pub mod Note
+pub mod Parts

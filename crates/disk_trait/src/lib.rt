@@ -1,0 +1,28 @@
+// The disk: two areas of bytes that fail and stop by a stated model, and a disk in memory that keeps it.
+//
+// The layers above rest on the trait `Disk` alone: what reads give, what a stop now may leave, and what a stop at any
+// moment since may have left. What they prove from it holds for every disk that keeps its clauses.
+#![tactic(auto)]
+
+mod area;
+mod area_bytes;
+mod both_areas;
+mod change_log;
+mod content;
+mod disk;
+mod laws;
+mod memory;
+mod note;
+mod plan;
+mod synced;
+#[cfg(test)]
+mod tests;
+
+pub use area::Area;
+pub use disk::Disk;
+pub use edge_traits::{Failed, NoMemory};
+pub use laws::{planned_images, rewrite_synced, same_calls_leave_the_same, sync_pins};
+pub use memory::MemoryDisk;
+pub use note::leave_note;
+pub use plan::{DiskPlan, Image};
+pub use synced::{cut_synced, write_synced};

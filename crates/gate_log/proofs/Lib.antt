@@ -1,0 +1,17 @@
+pub mod Appends
+pub mod Behind
+pub mod Choosing
+pub mod Found
+pub mod Fronts
+pub mod Gates
+pub mod Heads
+pub mod Made
+pub mod Making
+pub mod Quiet
+pub mod Repairing
+pub mod Rest
+pub mod Room
+pub mod Runs
+pub mod Scanning
+pub mod Sealing
+pub mod Walks

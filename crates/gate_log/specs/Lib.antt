@@ -1,0 +1,14 @@
+pub use Rattle.disk_trait.specs.Areas
+pub use Rattle.disk_trait.specs.Disk
+pub use Rattle.edge_traits.specs.Faults
+pub mod Causes
+pub mod Choice
+pub mod Found
+pub mod Fronts
+pub mod Kept
+pub mod Log
+pub mod Opened
+pub mod Scan
+pub mod Sealed
+pub mod Steps
+pub mod Untouched

@@ -1,0 +1,51 @@
+// Why a log was not opened, or a batch not appended.
+ghost use Rattle.std.specs.Prelude.{◌≡◌};
+ghost use Rattle.gate_log.specs.declared.error.LogError.TheVariants.{DiskFault, NoMemory as WantOfMemory};
+
+use disk_trait::{Area, Failed};
+use edge_traits::NoMemory;
+use std::alloc::AllocError;
+
+/// Why a log was not opened.
+#[derive(Clone, Copy, Debug, PartialEq, Eq)]
+pub enum LogError {
+    /// The disk failed in this call.
+    DiskFault,
+    /// The areas are damaged, first at this place.
+    Damaged { area: Area, place: u64 },
+    /// Memory ran out.
+    NoMemory,
+}
+
+/// Why a batch was not appended.
+#[derive(Clone, Copy, Debug, PartialEq, Eq)]
+pub enum AppendError {
+    /// The disk failed in this call. The batch may be in the log or not.
+    DiskFault,
+    /// An append failed before, and the disk's count of faults then was this.
+    Faulted { seen: u64 },
+}
+
+impl From<Failed> for LogError {
+    ghost from_gives = { λ _ error. error ≡ DiskFault };
+
+    fn from(_failed: Failed) -> LogError {
+        LogError::DiskFault
+    }
+}
+
+impl From<NoMemory> for LogError {
+    ghost from_gives = { λ _ error. error ≡ WantOfMemory };
+
+    fn from(_none: NoMemory) -> LogError {
+        LogError::NoMemory
+    }
+}
+
+impl From<AllocError> for LogError {
+    ghost from_gives = { λ _ error. error ≡ WantOfMemory };
+
+    fn from(_none: AllocError) -> LogError {
+        LogError::NoMemory
+    }
+}

@@ -1,0 +1,3 @@
+pub mod KeyRange
+pub mod View
+pub mod Names

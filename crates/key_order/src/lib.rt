@@ -1,0 +1,109 @@
+// The order of keys (Indexed Database API 3.0, 2.4): by type, and then by value.
+//
+// Layers above keep records by `key_cmp`, which is a total order in which only equal keys tie; `compare` answers it.
+#![tactic(auto)]
+
+ghost use Rattle.std.specs.Prelude.{◌≡◌, ◌≢◌, ℕ, ◌⊎◌, List};
+ghost use Rattle.std.specs.Ordering.{nat_cmp};
+ghost use Rattle.std.specs.Cmp.{IsTotalOrder};
+ghost use Rattle.std.specs.Cmp.Lexicographic.{slice_cmp};
+ghost use Rattle.std.specs.FinMap.{IsAntisymmetric};
+ghost use Rattle.std.specs.Str.{IsUtf8};
+ghost use Rattle.clone_values.specs.View.{key_tree_of};
+ghost use Rattle.clone_values.specs.KeyTree.{key_trees_of};
+ghost use Rattle.key_order.specs.KeyOrder.{key_cmp, keys_cmp, text_cmp, char_rank, type_rank, code_units, DifferAt, SurrogateMeetsHigh};
+
+use clone_values::{Key, Keys};
+use std::cmp::Ordering;
+
+/// The order of two keys; it takes no memory, and time in proportion to the shorter.
+#[cycle(compare)]
+#[tactic(auto, using(clone_values::specs::Falls::smaller_key))]
+pub fn compare(a: &Key, b: &Key) -> Ordering
+    ensures { result ≡ key_cmp (key_tree_of a.now) (key_tree_of b.now) }
+{
+    match (a, b) {
+        (Key::Number(x), Key::Number(y)) => x.cmp(y),
+        (Key::Date(x), Key::Date(y)) => x.cmp(y),
+        (Key::Text(x), Key::Text(y)) => compare_texts(x.as_str(), y.as_str()),
+        (Key::Binary(x), Key::Binary(y)) => x.as_slice().cmp(y.as_slice()),
+        (Key::Array(x), Key::Array(y)) => compare_lists(x, y),
+        _ => type_rank(a).cmp(&type_rank(b)),
+    }
+}
+
+#[cycle(compare)]
+#[tactic(auto, using(clone_values::specs::Falls::smaller_key))]
+fn compare_lists(a: &Keys, b: &Keys) -> Ordering
+    ensures { result ≡ keys_cmp (key_trees_of a.now) (key_trees_of b.now) }
+{
+    for place in 0..a.len() {
+        if let Some(x) = a.at(place) {
+            match b.at(place) {
+                Some(y) => match compare(x, y) {
+                    Ordering::Equal => {}
+                    other => return other,
+                },
+                None => return Ordering::Greater,
+            }
+        }
+    }
+    match b.at(a.len()) {
+        Some(_) => Ordering::Less,
+        None => Ordering::Equal,
+    }
+}
+
+fn type_rank(key: &Key) -> u8
+    ensures { result ≡ type_rank (key_tree_of key.now) }
+{
+    match key {
+        Key::Number(_) => 0,
+        Key::Date(_) => 1,
+        Key::Text(_) => 2,
+        Key::Binary(_) => 3,
+        Key::Array(_) => 4,
+    }
+}
+
+/// The order of two texts by their UTF-16 code units, which are not written out.
+fn compare_texts(a: &str, b: &str) -> Ordering
+    ensures { result ≡ text_cmp a.now b.now }
+{
+    let mut left = a.chars();
+    let mut right = b.chars();
+    while let Some(c) = left.next() {
+        match right.next() {
+            Some(d) if c == d => {}
+            Some(d) => return char_rank(c).cmp(&char_rank(d)),
+            None => return Ordering::Greater,
+        }
+    }
+    match right.next() {
+        Some(_) => Ordering::Less,
+        None => Ordering::Equal,
+    }
+}
+
+/// The characters above U+FFFF are written with surrogates, which stand before U+E000.
+fn char_rank(c: char) -> u32
+    ensures { result ≡ char_rank c }
+{
+    if ('\u{E000}'..='\u{FFFF}').contains(&c) {
+        c as u32 + 0x11_0000
+    } else {
+        c as u32
+    }
+}
+
+/// The laws of the order: it is total, only equal keys tie, and the order of UTF-8 bytes differs from it only where a
+/// surrogate meets a code unit from U+E000 on.
+pub fn key_order_laws()
+    ensures total { IsTotalOrder key_cmp }
+    ensures same { IsAntisymmetric key_cmp }
+    ensures bytes_differ { (s t : List ℕ) → IsUtf8 s → IsUtf8 t → text_cmp s t ≢ slice_cmp nat_cmp s t
+        → (u : ℕ) × (v : ℕ) × DifferAt (code_units s) (code_units t) u v × (SurrogateMeetsHigh u v ⊎ SurrogateMeetsHigh v u) }
+{}
+
+#[cfg(test)]
+mod tests;
