@@ -2,7 +2,8 @@
 --     names_of, is_rising   the names of a list; whether they rise strictly
 --     set_member            the list with the property of this name set
 --     get_member            what the property of this name holds
-use Rattle.std.specs.Prelude.{ℕ, Bool, true, ◌&&◌, nat_eq, List, [], ◌∷◌, map, Option}
+--     HasNameAt             the name of the property at a place
+use Rattle.std.specs.Prelude.{◌≡◌, ℕ, Bool, true, ◌&&◌, nat_eq, List, [], ◌∷◌, map, slice_get, Option, Some}
 use Rattle.std.specs.Option.{option_map}
 use Rattle.std.specs.Ordering.{nat_cmp, is_lt, match_ordering}
 use Rattle.std.specs.List.{find}
@@ -31,3 +32,7 @@ set_member (m ∷ ms) n v = match_ordering (slice_cmp nat_cmp n m.0) ((n, v) ∷
 -- the value of the property of that name, where there is one
 abbrev pub get_member : List (List ℕ × Tree) → List ℕ → Option Tree
 get_member ms n = option_map (λ m. m.1) (find (λ m. pointwise nat_eq m.0 n) ms)
+
+-- at this place, counted from 0, stands the property of that name
+abbrev pub HasNameAt : List (List ℕ × Tree) → ℕ → List ℕ → Type 0
+HasNameAt ms i n = slice_get (names_of ms) i ≡ Some n

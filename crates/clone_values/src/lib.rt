@@ -13,6 +13,7 @@ mod putting;
 mod sameness;
 mod small_lists;
 mod value_types;
+mod vectors;
 
 pub use checking::well_formed;
 pub use cloning::{CloneError, clone_value, depth};

@@ -53,6 +53,13 @@ impl Text {
         Text { text }
     }
 
+    /// The string with the same characters; it takes no memory.
+    pub fn into_string(self) -> String
+        ensures { string_bytes result ≡ self }
+    {
+        self.text
+    }
+
     /// An equal text.
     pub fn copy(&self, alloc: Global) -> Result<Text, NoMemory>
         ensures { IfOk result (λ t. t ≡ self.now) }
@@ -91,6 +98,20 @@ impl Texts {
         Texts {
             texts: Vec::new(alloc),
         }
+    }
+
+    /// The texts of a vector, in order. It takes no memory.
+    pub fn from_vec(texts: Vec<Text>) -> Texts
+        ensures { result ≡ texts.items }
+    {
+        Texts { texts }
+    }
+
+    /// The texts as a vector, in order. It takes no memory.
+    pub fn into_vec(self) -> Vec<Text>
+        ensures { result.items ≡ self }
+    {
+        self.texts
     }
 
     /// How many texts there are.
@@ -151,6 +172,20 @@ impl Bytes {
         Bytes {
             bytes: Vec::new(alloc),
         }
+    }
+
+    /// The bytes of a vector, in order. It takes no memory.
+    pub fn from_vec(bytes: Vec<u8>) -> Bytes
+        ensures { result ≡ bytes.items }
+    {
+        Bytes { bytes }
+    }
+
+    /// The bytes as a vector, in order. It takes no memory.
+    pub fn into_vec(self) -> Vec<u8>
+        ensures { result.items ≡ self }
+    {
+        self.bytes
     }
 
     /// How many bytes there are.
@@ -216,6 +251,20 @@ impl Numbers {
         Numbers {
             numbers: Vec::new(alloc),
         }
+    }
+
+    /// The numbers of a vector, in order. It takes no memory.
+    pub fn from_vec(numbers: Vec<u64>) -> Numbers
+        ensures { result ≡ numbers.items }
+    {
+        Numbers { numbers }
+    }
+
+    /// The numbers as a vector, in order. It takes no memory.
+    pub fn into_vec(self) -> Vec<u64>
+        ensures { result.items ≡ self }
+    {
+        self.numbers
     }
 
     /// How many numbers there are.

@@ -130,6 +130,11 @@ fn properties_stand_by_name(rt: HostRuntime) -> Result<(), Fail> {
     assert_eq!(rt; props.len(), 4);
     assert!(rt; props.get(&text(rt.alloc(), "d")?).is_none());
     assert!(rt; well_formed(&Value::Object(props)));
+    names_of_arrays(&rt, rt.alloc())
+}
+
+/// Which names the property of an Array may have.
+fn names_of_arrays(rt: &impl Abort, alloc: Global) -> Result<(), Fail> {
     for (name, may_stand) in [
         ("length", false),
         ("0", false),
@@ -138,14 +143,91 @@ fn properties_stand_by_name(rt: HostRuntime) -> Result<(), Fail> {
         ("1a", true),
         ("lengths", true),
     ] {
-        let mut props = Props::new(rt.alloc());
-        props.set(text(rt.alloc(), name)?, Value::Null)?;
+        let mut props = Props::new(alloc);
+        props.set(text(alloc, name)?, Value::Null)?;
         assert_eq!(rt;
-            well_formed(&Value::Array(Items::new(rt.alloc()), props)),
+            well_formed(&Value::Array(Items::new(alloc), props)),
             may_stand,
             "{name}"
         );
     }
+    Ok(())
+}
+
+/// A name is found by its place, and where it isn't there, the place is where it would stand.
+#[test]
+fn names_are_found_by_their_places(rt: HostRuntime) -> Result<(), Fail> {
+    let mut props = Props::new(rt.alloc());
+    for (number, name) in ["a", "b", "d", "\u{ff61}", "\u{10000}"]
+        .into_iter()
+        .enumerate()
+    {
+        assert!(rt; props.len() <= number);
+        props.set(text(rt.alloc(), name)?, Value::Int(number as i64))?;
+    }
+    for (name, found) in [
+        ("", Err(0)),
+        ("a", Ok(0)),
+        ("aa", Err(1)),
+        ("b", Ok(1)),
+        ("c", Err(2)),
+        ("d", Ok(2)),
+        ("\u{ff61}", Ok(3)),
+        ("\u{10000}", Ok(4)),
+        ("\u{10001}", Err(5)),
+    ] {
+        assert_eq!(rt; place_in(&props, name), found, "{name}");
+        assert_eq!(rt; finds(&props, name), found.is_ok(), "{name}");
+    }
+    assert!(rt; matches!(replaced(&mut props, 2, Value::Null), Some(Value::Int(2))));
+    assert!(rt; matches!(props.find("d"), Some(Value::Null)));
+    assert!(rt; matches!(replaced(&mut props, 5, Value::Null), None));
+    Ok(())
+}
+
+fn place_in(props: &Props, name: &str) -> Result<usize, usize> {
+    props.place_of(name)
+}
+
+fn finds(props: &Props, name: &str) -> bool {
+    props.find(name).is_some()
+}
+
+fn replaced(props: &mut Props, place: usize, value: Value) -> Option<Value> {
+    if place < props.len() {
+        Some(props.replace(place, value))
+    } else {
+        None
+    }
+}
+
+/// Each list is made of a vector, and gives it back.
+#[test]
+fn lists_come_from_vectors_and_go_back(rt: HostRuntime) -> Result<(), Fail> {
+    let alloc = rt.alloc();
+    let mut props = Props::new(alloc);
+    props.set(text(alloc, "b")?, Value::Null)?;
+    let mut pairs = Pairs::new(alloc);
+    pairs.put(Value::Null, Value::Int(1))?;
+    assert_eq!(rt; Props::from_vec(props.into_vec()).len(), 1);
+    assert_eq!(rt; Pairs::from_vec(pairs.into_vec()).into_vec().len(), 1);
+    let items = Items::from_vec(vec![in alloc; Value::Null, Value::Int(1)]?);
+    assert!(rt; matches!(items.at(1), Some(Value::Int(1))));
+    assert_eq!(rt; items.into_vec().len(), 2);
+    let keys = Keys::from_vec(vec![in alloc; Key::Number(1)]?);
+    assert_eq!(rt; keys.into_vec().len(), 1);
+    let texts = Texts::from_vec(vec![in alloc; text(alloc, "a")?]?);
+    assert_eq!(rt; texts.at(0).map(|t| t.as_str().len()), Some(1));
+    assert_eq!(rt; texts.into_vec().len(), 1);
+    assert_eq!(rt;
+        Bytes::from_vec(vec![in alloc; 7, 8]?).into_vec().as_slice(),
+        [7, 8].as_slice()
+    );
+    assert_eq!(rt;
+        Numbers::from_vec(vec![in alloc; 9]?).into_vec().as_slice(),
+        [9].as_slice()
+    );
+    assert_eq!(rt; text(alloc, "grün")?.into_string().as_str(), "grün");
     Ok(())
 }
 

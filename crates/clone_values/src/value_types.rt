@@ -1,10 +1,10 @@
 // Values and their lists. Contracts see an item as its plain tree, and a list as the list of these.
-ghost use Rattle.std.specs.Prelude.{◌≡◌, ℕ, ◌<◌, ◌≤◌, true, List, [], ◌∷◌, ◌++◌, length, map, slice_get, option_map, slice_set, vec_len, IfOk, IfErr, IfSome, IfNone, OnOk, OnErr};
+ghost use Rattle.std.specs.Prelude.{◌≡◌, ℕ, ◌<◌, ◌≤◌, true, List, [], ◌∷◌, ◌++◌, length, map, slice_get, option_map, slice_set, vec_len, IfOk, IfErr, IfSome, IfNone, OnOk, OnErr, None, Some};
 ghost use Rattle.std.specs.Option.{option_copied};
 ghost use Rattle.clone_values.specs.Limits.{HasRoom, StandsAt};
 ghost use Rattle.std.specs.List.{insert};
 ghost use Rattle.clone_values.specs.Tree.{Tree};
-ghost use Rattle.clone_values.specs.Names.{is_rising, names_of, set_member, get_member};
+ghost use Rattle.clone_values.specs.Names.{is_rising, names_of, set_member, get_member, HasNameAt};
 ghost use Rattle.clone_values.specs.View.{tree_of, prop_of, pair_of};
 
 use crate::small_lists::{Bytes, NoMemory, Text};
@@ -188,43 +188,58 @@ impl Props {
         }
     }
 
-    /// The value of the property of this name; `None` where there is none. It takes no memory.
+    /// The value of the property of this name; `None` where there is none. It takes no memory, and halves.
     pub fn get(&self, name: &Text) -> Option<&Value>
         ensures { option_map tree_of (option_copied result) ≡ get_member self.now name.now }
     {
-        for place in 0..self.len() {
-            if let Some(prop) = self.at(place) {
-                if prop.name.as_str() == name.as_str() {
-                    return Some(&prop.value);
-                }
-            }
-        }
-        None
+        self.find(name.as_str())
     }
 
-    /// The place of this name, or the place where it would stand.
-    fn place_of(&self, name: &str) -> Result<usize, usize>
-        ensures found { IfOk result (λ i. (i < length self.now) × ((v : Tree) → set_member self.now name.now v ≡ slice_set self.now i (name.now, v))) }
-        ensures absent { IfErr result (λ i. (i ≤ length self.now) × ((v : Tree) → set_member self.now name.now v ≡ insert self.now i (name.now, v))) }
+    /// As `get`, by a name that is no `Text`.
+    pub fn find(&self, name: &str) -> Option<&Value>
+        ensures { option_map tree_of (option_copied result) ≡ get_member self.now name.now }
     {
-        let count = self.len();
-        if count > 0 {
-            if let Some(last) = self.at(count - 1) {
-                if let Ordering::Greater = name.cmp(last.name.as_str()) {
-                    return Err(count);
-                }
+        match self.place_of(name) {
+            Ok(place) => match self.at(place) {
+                Some(prop) => Some(&prop.value),
+                None => None,
+            },
+            Err(_) => None,
+        }
+    }
+
+    /// The place of this name, or the place where it would stand. It takes no memory, and halves.
+    pub fn place_of(&self, name: &str) -> Result<usize, usize>
+        ensures found { IfOk result (λ i. HasNameAt self.now i name.now) }
+        ensures set_there { IfOk result (λ i. (v : Tree) → set_member self.now name.now v ≡ slice_set self.now i (name.now, v)) }
+        ensures got_there { IfOk result (λ i. get_member self.now name.now ≡ option_map (λ m. m.1) (slice_get self.now i)) }
+        ensures absent { IfErr result (λ i. get_member self.now name.now ≡ None) }
+        ensures put_there { IfErr result (λ i. (i ≤ length self.now) × ((v : Tree) → set_member self.now name.now v ≡ insert self.now i (name.now, v))) }
+    {
+        let mut low = 0;
+        let mut high = self.len();
+        while low < high {
+            let middle = low + (high - low) / 2;
+            let Some(prop) = self.at(middle) else {
+                unreachable!()
+            };
+            match name.cmp(prop.name.as_str()) {
+                Ordering::Less => high = middle,
+                Ordering::Equal => return Ok(middle),
+                Ordering::Greater => low = middle + 1,
             }
         }
-        for place in 0..count {
-            if let Some(prop) = self.at(place) {
-                match name.cmp(prop.name.as_str()) {
-                    Ordering::Less => return Err(place),
-                    Ordering::Equal => return Ok(place),
-                    Ordering::Greater => {}
-                }
-            }
-        }
-        Err(count)
+        Err(low)
+    }
+
+    /// Puts a value into the property at this place, and gives the one that stood there.
+    pub fn replace(&mut self, place: usize, value: Value) -> Value
+        requires { place < length self.old }
+        ensures given { option_map (λ m. m.1) (slice_get self.old place) ≡ Some (tree_of result) }
+        ensures put { (name : List ℕ) → HasNameAt self.old place name → self.new ≡ slice_set self.old place (name, tree_of value) }
+        ensures same_names { names_of self.new ≡ names_of self.old }
+    {
+        swap_value(&mut self.props, place, value)
     }
 }
 
@@ -233,6 +248,16 @@ fn replace_prop(props: &mut Vec<Prop>, place: usize, prop: Prop)
     ensures { map prop_of props.new.items ≡ slice_set (map prop_of props.old.items) place (prop_of prop) }
 {
     props[place] = prop;
+}
+
+fn swap_value(props: &mut Vec<Prop>, place: usize, value: Value) -> Value
+    requires { place < vec_len props.old }
+    ensures given { option_map (λ m. m.1) (slice_get (map prop_of props.old.items) place) ≡ Some (tree_of result) }
+    ensures put { (name : List ℕ) → HasNameAt (map prop_of props.old.items) place name
+        → map prop_of props.new.items ≡ slice_set (map prop_of props.old.items) place (name, tree_of value) }
+    ensures same_names { names_of (map prop_of props.new.items) ≡ names_of (map prop_of props.old.items) }
+{
+    std::mem::replace(&mut props[place].value, value)
 }
 
 fn insert_prop(props: &mut Vec<Prop>, place: usize, prop: Prop) -> Result<(), NoMemory>
