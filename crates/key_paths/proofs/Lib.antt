@@ -1,0 +1,4 @@
+pub mod KeysFound
+pub mod EachOnce
+pub mod Walks
+pub mod Units
