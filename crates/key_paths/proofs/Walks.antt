@@ -65,15 +65,15 @@ ends (Some t) = refl
 pub one_step : (s : List ℕ) (t : Tree) → position_or_len (λ b. b == 46) s ≡ length s → step_of s t ≡ walked (parts_of s) t
 one_step s t h = ends (step_of s t) ∙ ap (λ ps. walked ps t) (sym (one_part s h))
 
-module _ (s name more : List ℕ) (t : Tree) (cut : position_or_len (λ b. b == 46) s < length s) (front : name ≡ before_first (λ b. b == 46) s) (back : more ≡ after_first (λ b. b == 46) s) where
+module _ (s name more : List ℕ) (cut : position_or_len (λ b. b == 46) s < length s) (front : name ≡ before_first (λ b. b == 46) s) (back : more ≡ after_first (λ b. b == 46) s) where
   pub cut_parts : parts_of s ≡ name ∷ parts_of more
   cut_parts = rw (front, back) (parts_cut s cut)
 
-  steps : walked (parts_of s) t ≡ option_and_then (walked (parts_of more)) (step_of name t)
-  steps = ap (λ ps. walked ps t) cut_parts
+  steps : (t : Tree) → walked (parts_of s) t ≡ option_and_then (walked (parts_of more)) (step_of name t)
+  steps t = ap (λ ps. walked ps t) cut_parts
 
-  pub length_step : true ≡ takes_length name t → None ≡ walked (parts_of s) t
-  length_step h = sym (steps ∙ ap (λ b. option_and_then (walked (parts_of more)) (if b then length_of t else property_of name t)) (sym h) ∙ length_ends (parts_of more) t (some_part more))
+  pub length_step : (t : Tree) → true ≡ takes_length name t → None ≡ walked (parts_of s) t
+  length_step t h = sym (steps t ∙ ap (λ b. option_and_then (walked (parts_of more)) (if b then length_of t else property_of name t)) (sym h) ∙ length_ends (parts_of more) t (some_part more))
 
-  pub more_steps : (o : Option Tree) → false ≡ takes_length name t → o ≡ property_of name t → option_and_then (walked (parts_of more)) o ≡ walked (parts_of s) t
-  more_steps o h e = sym (steps ∙ (λ i. option_and_then (walked (parts_of more)) (if sym h i then length_of t else sym e i)))
+  pub more_steps : (t : Tree) (o : Option Tree) → false ≡ takes_length name t → o ≡ property_of name t → option_and_then (walked (parts_of more)) o ≡ walked (parts_of s) t
+  more_steps t o h e = sym (steps t ∙ (λ i. option_and_then (walked (parts_of more)) (if sym h i then length_of t else sym e i)))

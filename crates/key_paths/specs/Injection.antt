@@ -1,8 +1,8 @@
 -- Injection of a key into a value (Indexed Database API 3.0, 7.2).
---     can_inject, CanInject      whether a key could be injected
+--     can_inject            whether a key could be injected
 --     injected              the value with the key's value put in
 --     HasRoomFor            the list of properties that gets a member has room for it
-use Rattle.std.specs.Prelude.{◌≡◌, ◌==◌, ℕ, Bool, true, false, not, ◌&&◌, List, [], ◌∷◌, length, Option, Some, None, option_map, unwrap_or, MatchOption}
+use Rattle.std.specs.Prelude.{◌==◌, ℕ, Bool, true, false, not, ◌&&◌, List, [], ◌∷◌, length, option_map, unwrap_or, MatchOption}
 use Rattle.clone_values.specs.Limits.{HasRoom}
 use Rattle.clone_values.specs.Tree.{Tree, array, object, no_members, members_of}
 use Rattle.clone_values.specs.KeyTree.{KeyTree}
@@ -11,11 +11,7 @@ use Rattle.clone_values.specs.declared.path_types.PathSpec.{PathSpec}
 use Rattle.clone_values.specs.declared.path_types.PathSpec.TheVariants.{One, Many}
 use Rattle.path_grammar.specs.KeyPath.{parts_of}
 use Rattle.key_paths.specs.Conversion.{value_of_key}
-use Rattle.key_paths.specs.Evaluation.{is_length, properties_of}
-
-abbrev pub is_array : Tree → Bool
-is_array (array ts ms) = true
-is_array _ = false
+use Rattle.key_paths.specs.Evaluation.{takes_length, properties_of}
 
 -- an Object or an Array, and nothing else
 abbrev pub is_holder : Tree → Bool
@@ -29,19 +25,16 @@ all_but_last [] = []
 all_but_last (n ∷ []) = []
 all_but_last (n ∷ m ∷ ns) = n ∷ all_but_last (m ∷ ns)
 
--- a walk along these identifiers ends at an Object or Array, or at a missing property of one; it never goes to an
--- Array's length
+-- a walk along these identifiers ends at an Object or Array, or at a missing property of one; it never goes to the
+-- length of an Array
 abbrev pub ends_at_holder : List (List ℕ) → Tree → Bool
 ends_at_holder [] t = is_holder t
-ends_at_holder (n ∷ ns) t = is_holder t && not (is_array t && is_length n) && unwrap_or (option_map (ends_at_holder ns) (get_member (properties_of t) n)) true
+ends_at_holder (n ∷ ns) t = is_holder t && not (takes_length n t) && unwrap_or (option_map (ends_at_holder ns) (get_member (properties_of t) n)) true
 
--- whether a key could be injected by this path: by a list or the empty string never
+-- whether a key could be injected by this path: by the empty string or a list never
 abbrev pub can_inject : PathSpec → Tree → Bool
 can_inject (One s) t = not (length s == 0) && ends_at_holder (all_but_last (parts_of s)) t
 can_inject (Many ss) t = false
-
-abbrev pub CanInject : PathSpec → Tree → Type 0
-CanInject path t = can_inject path t ≡ true
 
 -- the Object or Array with these properties
 abbrev pub with_properties : Tree → List (List ℕ × Tree) → Tree
@@ -49,17 +42,21 @@ with_properties (array ts ms) ps = array ts (members_of ps)
 with_properties (object ms) ps = object (members_of ps)
 with_properties t ps = t
 
--- with the value at the end of these identifiers; where a property is missing it is made as an Object
+-- what the property of that name holds; where it is missing, a new Object
+abbrev pub held : List ℕ → List (List ℕ × Tree) → Tree
+held n ms = unwrap_or (get_member ms n) (object no_members)
+
+-- with the value at the end of these identifiers, and the missing Objects made
 abbrev pub placed : List (List ℕ) → Tree → Tree → Tree
 placed [] t v = v
-placed (n ∷ ns) t v = with_properties t (set_member (properties_of t) n (placed ns (unwrap_or (get_member (properties_of t) n) (object no_members)) v))
+placed (n ∷ ns) t v = with_properties t (set_member (properties_of t) n (placed ns (held n (properties_of t)) v))
 
 -- with the key's value at the end of the path
 abbrev pub injected : PathSpec → Tree → KeyTree → Tree
 injected (One s) t k = placed (parts_of s) t (value_of_key k)
 injected (Many ss) t k = t
 
--- where the walk comes to a missing property, its list has room for one more
+-- where the walk comes to a missing property, the list has room for it
 abbrev pub HasRoomAlong : List (List ℕ) → Tree → Type 0
 HasRoomAlong [] t = Unit {0}
 HasRoomAlong (n ∷ ns) t = MatchOption (get_member (properties_of t) n) (HasRoom (properties_of t)) (HasRoomAlong ns)
@@ -67,3 +64,16 @@ HasRoomAlong (n ∷ ns) t = MatchOption (get_member (properties_of t) n) (HasRoo
 abbrev pub HasRoomFor : PathSpec → Tree → Type 0
 HasRoomFor (One s) t = HasRoomAlong (parts_of s) t
 HasRoomFor (Many ss) t = Unit {0}
+
+-- ---- the same of a list of properties, for the clauses of private functions
+abbrev pub ends_in : List (List ℕ) → List (List ℕ × Tree) → Bool
+ends_in [] ms = true
+ends_in (n ∷ ns) ms = unwrap_or (option_map (ends_at_holder ns) (get_member ms n)) true
+
+abbrev pub placed_in : List (List ℕ) → List (List ℕ × Tree) → Tree → List (List ℕ × Tree)
+placed_in [] ms v = ms
+placed_in (n ∷ ns) ms v = set_member ms n (placed ns (held n ms) v)
+
+abbrev pub HasRoomIn : List (List ℕ) → List (List ℕ × Tree) → Type 0
+HasRoomIn [] ms = Unit {0}
+HasRoomIn (n ∷ ns) ms = MatchOption (get_member ms n) (HasRoom ms) (HasRoomAlong ns)

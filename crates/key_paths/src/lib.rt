@@ -7,8 +7,10 @@
 mod conversion;
 mod evaluation;
 mod extraction;
+mod injection;
 mod multi_entry;
 
 pub use conversion::{conversion_laws, to_key, to_value};
 pub use evaluation::evaluate;
 pub use extraction::{Extracted, extract};
+pub use injection::{could_inject, inject};

@@ -12,15 +12,15 @@ returns-in-None t c =
 pub returns-then-takes_length : goal.returns-then-takes_length
 returns-then-takes_length t c =
     let cut = rw c.in-Some.is at (split_once_first 46 _ _ c.split_once.ensures.cases (lit< tt)) in
-    length_step _ _ _ _ cut.0 cut.1 cut.2 c.if-takes_length.ensures
+    length_step _ _ _ cut.0 cut.1 cut.2 _ c.if-takes_length.ensures
 
 pub returns-in-Some-property : goal.returns-in-Some-property
 returns-in-Some-property t c =
     let cut = rw c.in-Some.is at (split_once_first 46 _ _ c.split_once.ensures.cases (lit< tt)) in
     subst (λ p. IfOk c.walk.result (λ r. option_map tree_of r ≡ p))
-    (more_steps _ _ _ _ cut.0 cut.1 cut.2 (Some (tree_of c.in-Some-property.inner.now)) c.if-takes_length.ensures c.in-Some-property.ensures) c.walk.ensures
+    (more_steps _ _ _ cut.0 cut.1 cut.2 _ (Some (tree_of c.in-Some-property.inner.now)) c.if-takes_length.ensures c.in-Some-property.ensures) c.walk.ensures
 
 pub returns-in-None-property : goal.returns-in-None-property
 returns-in-None-property t c =
     let cut = rw c.in-Some.is at (split_once_first 46 _ _ c.split_once.ensures.cases (lit< tt)) in
-    more_steps _ _ _ _ cut.0 cut.1 cut.2 None c.if-takes_length.ensures c.in-None-property.ensures
+    more_steps _ _ _ cut.0 cut.1 cut.2 _ None c.if-takes_length.ensures c.in-None-property.ensures
