@@ -2,7 +2,7 @@
 --     holder_so             where it ends well it began at an Object or Array
 --     into, room_into       what is asked of the value, asked of its properties
 --     only_one, goes_on     a string cut at its first full stop
-use Rattle.std.proofs.Common.{◌≡◌, ℕ, ◌<◌, ◌≤◌, ◌==◌, Bool, true, false, not, ◌&&◌, List, [], ◌∷◌, length, Option, Some, None, option_map, unwrap_or, refl, sym, ◌∙◌, ap, subst, arith}
+use Rattle.std.proofs.Common.{nat_lt, ◌≡◌, ℕ, ◌<◌, ◌≤◌, ◌==◌, Bool, true, false, not, ◌&&◌, List, [], ◌∷◌, length, Option, Some, None, option_map, unwrap_or, refl, sym, ◌∙◌, ap, subst, arith}
 use Rattle.std.specs.Cmp.{first_so, second_so}
 use Rattle.std.specs.List.{position_or_len, before_first, after_first}
 use Rattle.clone_values.specs.Tree.{Tree}
@@ -10,7 +10,7 @@ use Rattle.clone_values.specs.Names.{get_member}
 use Rattle.path_grammar.specs.KeyPath.{parts_of}
 use Rattle.path_grammar.proofs.PathParts.{one_part, some_part}
 use Rattle.key_paths.specs.Evaluation.{takes_length, properties_of}
-use Rattle.key_paths.specs.Injection.{is_holder, all_but_last, ends_at_holder, HasRoomAlong, ends_in, HasRoomIn}
+use Rattle.key_paths.specs.Injection.{is_holder, all_but_last, ends_at_holder, has_room_along, ends_in, has_room_in}
 use Rattle.key_paths.proofs.Walks.{cut_parts}
 
 -- the three tests of one identifier
@@ -32,9 +32,9 @@ pub into : (ns : List (List ℕ)) (t : Tree) (ms : List (List ℕ × Tree)) → 
 into [] t ms e h = refl
 into (n ∷ ns) t ms e h = ap (ends_in (n ∷ ns)) (sym e) ∙ ends_inside n ns t h
 
-pub room_into : (ns : List (List ℕ)) (t : Tree) (ms : List (List ℕ × Tree)) → properties_of t ≡ ms → HasRoomAlong ns t → HasRoomIn ns ms
-room_into [] t ms e h = tt
-room_into (n ∷ ns) t ms e h = subst (HasRoomIn (n ∷ ns)) e h
+pub room_into : (ns : List (List ℕ)) (t : Tree) (ms : List (List ℕ × Tree)) → properties_of t ≡ ms → has_room_along ns t ≡ true → has_room_in ns ms ≡ true
+room_into [] t ms e h = refl
+room_into (n ∷ ns) t ms e h = ap (has_room_in (n ∷ ns)) (sym e) ∙ h
 
 pub last_left : (n : List ℕ) (ps : List (List ℕ)) → 1 ≤ length ps → all_but_last (n ∷ ps) ≡ n ∷ all_but_last ps
 last_left n [] h = absurd (omega arith)
@@ -56,3 +56,17 @@ module _ (s name more : List ℕ) (cut : position_or_len (λ b. b == 46) s < len
       → (not b && unwrap_or (option_map (ends_at_holder (all_but_last (parts_of more))) o) true) ≡ ends_at_holder (all_but_last (parts_of s)) t
   goes_on t b o h e f =
       (λ i. h i && not (e i) && unwrap_or (option_map (ends_at_holder (all_but_last (parts_of more))) (f i)) true) ∙ ap (λ ps. ends_at_holder ps t) (sym others_left)
+
+-- ---- room at the next identifier
+pub room_step : (s n : List ℕ) (ns : List (List ℕ)) (t : Tree) (ms : List (List ℕ × Tree)) (o : Option Tree) → parts_of s ≡ n ∷ ns → ms ≡ properties_of t → o ≡ get_member ms n
+    → unwrap_or (option_map (has_room_along ns) o) (nat_lt (length ms) 4294967295) ≡ has_room_along (parts_of s) t
+room_step s n ns t ms o cut e f =
+    ap (λ p. unwrap_or (option_map (has_room_along ns) p) (nat_lt (length ms) 4294967295)) f
+    ∙ ap (has_room_in (n ∷ ns)) e ∙ ap (λ ps. has_room_along ps t) (sym cut)
+
+pub no_properties : (s : List ℕ) (t : Tree) → properties_of t ≡ [] → true ≡ has_room_along (parts_of s) t
+no_properties s t e = by_parts (parts_of s)
+  where
+    by_parts : (ps : List (List ℕ)) → true ≡ has_room_along ps t
+    by_parts [] = refl
+    by_parts (p ∷ ps) = sym (ap (has_room_in (p ∷ ps)) e)

@@ -1,7 +1,7 @@
 -- What stands in a property is taken out, changed and put back.
 --     within_names          a place with a name is in the list
 --     back_as_placed, back_as_it_was     the list after that, and after that failed
-use Rattle.std.proofs.Common.{Result, Ok, Err, OnOk, OnErr, ◌≡◌, ℕ, zero, suc, ◌<◌, ◌≤◌, true, List, [], ◌∷◌, length, Option, Some, None, option_map, unwrap_or, MatchOption, slice_get, slice_set, refl, sym, ◌∙◌, ap, subst, arith}
+use Rattle.std.proofs.Common.{Bool, nat_lt, ltb-true, Result, Ok, Err, OnOk, OnErr, ◌≡◌, ℕ, zero, suc, ◌<◌, ◌≤◌, true, List, [], ◌∷◌, length, Option, Some, None, option_map, unwrap_or, MatchOption, slice_get, slice_set, refl, sym, ◌∙◌, ap, subst, arith}
 use Rattle.clone_values.specs.Limits.{HasRoom}
 use Rattle.clone_values.specs.Tree.{Tree, object, no_members}
 use Rattle.clone_values.specs.View.{tree_of}
@@ -9,7 +9,7 @@ use Rattle.clone_values.specs.declared.value_types.Value.{Value}
 use Rattle.clone_values.specs.declared.value_types.Value.TheVariants as value
 use Rattle.clone_values.specs.Names.{names_of, get_member, set_member, HasNameAt}
 use Rattle.key_paths.specs.Evaluation.{properties_of}
-use Rattle.key_paths.specs.Injection.{is_holder, ends_at_holder, ends_in, held, placed, placed_in, with_properties, HasRoomAlong, HasRoomIn}
+use Rattle.key_paths.specs.Injection.{is_holder, ends_at_holder, ends_in, held, placed, placed_in, with_properties, has_room_along, has_room_in}
 
 pub within_names : (ms : List (List ℕ × Tree)) (i : ℕ) (n : List ℕ) → HasNameAt ms i n → i < length ms
 within_names [] i n e = cc
@@ -48,12 +48,15 @@ module _ {E : Type 0} (r : Result (Unit {0}) E) (ms one two : List (List ℕ × 
 pub ends_held : (ns : List (List ℕ)) (n : List ℕ) (ms : List (List ℕ × Tree)) (u : Tree) → get_member ms n ≡ Some u → ends_in (n ∷ ns) ms ≡ true → ends_at_holder ns u ≡ true
 ends_held ns n ms u e h = ap (λ o. unwrap_or (option_map (ends_at_holder ns) o) true) (sym e) ∙ h
 
-pub room_held : (ns : List (List ℕ)) (n : List ℕ) (ms : List (List ℕ × Tree)) (u : Tree) → get_member ms n ≡ Some u → HasRoomIn (n ∷ ns) ms → HasRoomAlong ns u
-room_held ns n ms u e h = subst (λ o. MatchOption o (HasRoom ms) (HasRoomAlong ns)) e h
+pub room_held : (ns : List (List ℕ)) (n : List ℕ) (ms : List (List ℕ × Tree)) (u : Tree) → get_member ms n ≡ Some u → has_room_in (n ∷ ns) ms ≡ true → has_room_along ns u ≡ true
+room_held ns n ms u e h = ap (λ o. unwrap_or (option_map (has_room_along ns) o) (nat_lt (length ms) 4294967295)) (sym e) ∙ h
 
-pub room_if_missing : {A : Type 0} (P : Type 0) (Q : A → Type 0) (o : Option A) → MatchOption o P Q → MatchOption o P (λ _. Unit {0})
-room_if_missing P Q None h = h
-room_if_missing P Q (Some x) h = tt
+room_or : (f : Tree → Bool) (ms : List (List ℕ × Tree)) (o : Option Tree) → unwrap_or (option_map f o) (nat_lt (length ms) 4294967295) ≡ true → MatchOption o (HasRoom ms) (λ _. Unit {0})
+room_or f ms None h = ltb-true (length ms) 4294967295 h
+room_or f ms (Some u) h = tt
+
+pub room_if_missing : (ns : List (List ℕ)) (n : List ℕ) (ms : List (List ℕ × Tree)) → has_room_in (n ∷ ns) ms ≡ true → MatchOption (get_member ms n) (HasRoom ms) (λ _. Unit {0})
+room_if_missing ns n ms h = room_or (has_room_along ns) ms (get_member ms n) h
 
 -- ---- a value by its properties
 pub placed_by : (ns : List (List ℕ)) (t v : Tree) (ms : List (List ℕ × Tree)) → 1 ≤ length ns → properties_of t ≡ ms → with_properties t (placed_in ns ms v) ≡ placed ns t v

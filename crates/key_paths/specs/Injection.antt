@@ -1,9 +1,8 @@
 -- Injection of a key into a value (Indexed Database API 3.0, 7.2).
 --     can_inject            whether a key could be injected
 --     injected              the value with the key's value put in
---     HasRoomFor            the list of properties that gets a member has room for it
-use Rattle.std.specs.Prelude.{◌==◌, ℕ, Bool, true, false, not, ◌&&◌, List, [], ◌∷◌, length, option_map, unwrap_or, MatchOption}
-use Rattle.clone_values.specs.Limits.{HasRoom}
+--     has_room_for          the list of properties that gets a member has room for it
+use Rattle.std.specs.Prelude.{◌==◌, ℕ, Bool, true, false, not, ◌&&◌, List, [], ◌∷◌, length, nat_lt, option_map, unwrap_or}
 use Rattle.clone_values.specs.Tree.{Tree, array, object, no_members, members_of}
 use Rattle.clone_values.specs.KeyTree.{KeyTree}
 use Rattle.clone_values.specs.Names.{get_member, set_member}
@@ -56,14 +55,15 @@ abbrev pub injected : PathSpec → Tree → KeyTree → Tree
 injected (One s) t k = placed (parts_of s) t (value_of_key k)
 injected (Many ss) t k = t
 
--- where the walk comes to a missing property, the list has room for it
-abbrev pub HasRoomAlong : List (List ℕ) → Tree → Type 0
-HasRoomAlong [] t = Unit {0}
-HasRoomAlong (n ∷ ns) t = MatchOption (get_member (properties_of t) n) (HasRoom (properties_of t)) (HasRoomAlong ns)
+-- where the walk comes to a missing property, its list has room for one more
+abbrev pub has_room_along : List (List ℕ) → Tree → Bool
+has_room_along [] t = true
+has_room_along (n ∷ ns) t = unwrap_or (option_map (has_room_along ns) (get_member (properties_of t) n)) (nat_lt (length (properties_of t)) 4294967295)
 
-abbrev pub HasRoomFor : PathSpec → Tree → Type 0
-HasRoomFor (One s) t = HasRoomAlong (parts_of s) t
-HasRoomFor (Many ss) t = Unit {0}
+-- the list of properties that gets a member stays within its greatest size
+abbrev pub has_room_for : PathSpec → Tree → Bool
+has_room_for (One s) t = has_room_along (parts_of s) t
+has_room_for (Many ss) t = true
 
 -- ---- the same of a list of properties, for the clauses of private functions
 abbrev pub ends_in : List (List ℕ) → List (List ℕ × Tree) → Bool
@@ -74,6 +74,6 @@ abbrev pub placed_in : List (List ℕ) → List (List ℕ × Tree) → Tree → 
 placed_in [] ms v = ms
 placed_in (n ∷ ns) ms v = set_member ms n (placed ns (held n ms) v)
 
-abbrev pub HasRoomIn : List (List ℕ) → List (List ℕ × Tree) → Type 0
-HasRoomIn [] ms = Unit {0}
-HasRoomIn (n ∷ ns) ms = MatchOption (get_member ms n) (HasRoom ms) (HasRoomAlong ns)
+abbrev pub has_room_in : List (List ℕ) → List (List ℕ × Tree) → Bool
+has_room_in [] ms = true
+has_room_in (n ∷ ns) ms = unwrap_or (option_map (has_room_along ns) (get_member ms n)) (nat_lt (length ms) 4294967295)

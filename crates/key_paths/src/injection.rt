@@ -1,5 +1,5 @@
 // Injection of keys into values by a key path.
-ghost use Rattle.std.specs.Prelude.{◌≡◌, true, None, Some, is_some, IfSome, IfOk, OnOk, OnErr, MatchOption};
+ghost use Rattle.std.specs.Prelude.{◌≡◌, true, [], None, Some, is_some, IfSome, IfNone, IfOk, OnOk, OnErr, MatchOption};
 ghost use Rattle.clone_values.specs.Limits.{HasRoom};
 ghost use Rattle.clone_values.specs.Names.{get_member, set_member};
 ghost use Rattle.clone_values.specs.Tree.{object, no_members, member_more};
@@ -7,13 +7,16 @@ ghost use Rattle.clone_values.specs.View.{tree_of, key_tree_of};
 ghost use Rattle.path_grammar.specs.KeyPath.{parts_of};
 ghost use Rattle.key_paths.specs.Conversion.{value_of_key};
 ghost use Rattle.key_paths.specs.Evaluation.{evaluated, properties_of};
-ghost use Rattle.key_paths.specs.Injection.{can_inject, injected, HasRoomFor, is_holder, all_but_last, ends_at_holder, placed, HasRoomAlong, ends_in, placed_in, HasRoomIn};
+ghost use Rattle.key_paths.specs.Injection.{can_inject, injected, has_room_for, is_holder, all_but_last, ends_at_holder, placed, has_room_along, ends_in, placed_in, has_room_in};
 
 use crate::conversion::to_value;
 use crate::evaluation::takes_length;
 use clone_values::{Key, NoMemory, PathSpec, Props, Text, Value};
 use path_grammar::KeyPath;
 use std::alloc::Global;
+
+/// The greatest number of properties in a list.
+const LIMIT: usize = 4_294_967_295;
 
 /// Whether a key could be injected into the value at the end of the path; it takes no memory (Indexed Database API 3.0,
 /// 7.2, "check that a key could be injected into a value").
@@ -54,10 +57,40 @@ fn ends_at_holder(s: &str, v: &Value) -> bool
 fn properties_of(v: &Value) -> Option<&Props>
     ensures holder { is_some result ≡ is_holder (tree_of v.now) }
     ensures properties { IfSome result (λ p. p.now ≡ properties_of (tree_of v.now)) }
+    ensures none { IfNone result (properties_of (tree_of v.now) ≡ []) }
 {
     match v {
         Value::Array(_, props) | Value::Object(props) => Some(props),
         _ => None,
+    }
+}
+
+/// Whether the list of properties that gets a member has room for it; `inject` asks this. It takes no memory.
+pub fn has_room(path: &KeyPath, v: &Value) -> bool
+    ensures { result ≡ has_room_for path.now (tree_of v.now) }
+{
+    match path.spec() {
+        PathSpec::One(string) => has_room_along(string.as_str(), v),
+        PathSpec::Many(_) => true,
+    }
+}
+
+/// Goes one identifier further at each call.
+fn has_room_along(s: &str, v: &Value) -> bool
+    ensures { result ≡ has_room_along (parts_of s.now) (tree_of v.now) }
+{
+    let Some(props) = properties_of(v) else {
+        return true;
+    };
+    match s.split_once('.') {
+        None => match props.find(s) {
+            Some(_) => true,
+            None => props.len() < LIMIT,
+        },
+        Some((name, more)) => match props.find(name) {
+            Some(inner) => has_room_along(more, inner),
+            None => props.len() < LIMIT,
+        },
     }
 }
 
@@ -66,7 +99,7 @@ fn properties_of(v: &Value) -> Option<&Props>
 pub fn inject(alloc: Global, path: &KeyPath, v: &mut Value, key: &Key) -> Result<(), NoMemory>
     requires possible { can_inject path.now (tree_of v.old) ≡ true }
     requires absent { evaluated path.now (tree_of v.old) ≡ None }
-    requires room { HasRoomFor path.now (tree_of v.old) }
+    requires room { has_room_for path.now (tree_of v.old) ≡ true }
     ensures injected { OnOk result (tree_of v.new ≡ injected path.now (tree_of v.old) (key_tree_of key.now)) }
     ensures found { OnOk result (evaluated path.now (tree_of v.new) ≡ Some (value_of_key (key_tree_of key.now))) }
     ensures unchanged { OnErr result (v.new ≡ v.old) }
@@ -83,7 +116,7 @@ pub fn inject(alloc: Global, path: &KeyPath, v: &mut Value, key: &Key) -> Result
 #[cycle(place)]
 fn place(alloc: Global, s: &str, v: &mut Value, value: Value) -> Result<(), NoMemory>
     requires possible { ends_at_holder (all_but_last (parts_of s.now)) (tree_of v.old) ≡ true }
-    requires room { HasRoomAlong (parts_of s.now) (tree_of v.old) }
+    requires room { has_room_along (parts_of s.now) (tree_of v.old) ≡ true }
     ensures placed { OnOk result (tree_of v.new ≡ placed (parts_of s.now) (tree_of v.old) (tree_of value)) }
     ensures unchanged { OnErr result (v.new ≡ v.old) }
 {
@@ -98,7 +131,7 @@ fn place(alloc: Global, s: &str, v: &mut Value, value: Value) -> Result<(), NoMe
 #[cycle(place)]
 fn place_in(alloc: Global, s: &str, props: &mut Props, value: Value) -> Result<(), NoMemory>
     requires possible { ends_in (all_but_last (parts_of s.now)) props.old ≡ true }
-    requires room { HasRoomIn (parts_of s.now) props.old }
+    requires room { has_room_in (parts_of s.now) props.old ≡ true }
     ensures placed { OnOk result (props.new ≡ placed_in (parts_of s.now) props.old (tree_of value)) }
     ensures unchanged { OnErr result (props.new ≡ props.old) }
 {

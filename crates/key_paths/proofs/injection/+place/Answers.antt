@@ -1,14 +1,13 @@
-use Rattle.std.proofs.Common.{◌≡◌, ◌∷◌, ◌+◌, ◌==◌, true, ◌<◌, length-drop, OnOk, OnErr, sym, ◌∙◌, ap, subst, lit<, arith, length, slice_get, unwrap_or}
+use Rattle.std.proofs.Common.{◌≡◌, [], ◌∷◌, ◌+◌, ◌==◌, true, ◌<◌, length-drop, OnOk, OnErr, sym, ◌∙◌, ap, subst, lit<, arith, length, slice_get, unwrap_or}
 use Rattle.std.proofs.lemmas.Result.{on_err_weaker, on_ok_weaker}
 use Rattle.std.proofs.lemmas.Str.Pattern.{split_once_first}
 use Rattle.clone_values.specs.Tree.{undefined, array, object, no_members, trees_of, members_of}
-use Rattle.clone_values.specs.Names.{get_member, set_member}
-use Rattle.clone_values.specs.Limits.{HasRoom}
+use Rattle.clone_values.specs.Names.{set_member}
 use Rattle.clone_values.specs.View.{tree_of}
 use Rattle.clone_values.proofs.Lists.{members_again}
 use Rattle.path_grammar.specs.KeyPath.{parts_of}
 use Rattle.path_grammar.proofs.PathParts.{one_part, some_part}
-use Rattle.key_paths.specs.Injection.{placed, placed_in, with_properties, HasRoomIn, HasRoomAlong, ends_in}
+use Rattle.key_paths.specs.Injection.{placed, placed_in, with_properties, has_room_in, ends_in}
 use Rattle.key_paths.specs.Evaluation.{properties_of}
 use Rattle.std.specs.List.{position_or_len}
 use Rattle.key_paths.proofs.Walks.{cut_parts}
@@ -19,7 +18,7 @@ use Rattle.key_paths.proofs.injection.+place.Goals as goal
 pub place_in-set_property-requires : goal.place_in-set_property-requires
 place_in-set_property-requires t c =
     let cut = rw c.in-None.is at (split_once_first 46 _ _ c.split_once.ensures.cases (lit< tt)) in
-    subst (λ ps. HasRoomIn ps c.args.props.now) (one_part _ cut) c.requires.1.1.1
+    room_if_missing [] c.args.s.now c.args.props.now (subst (λ ps. has_room_in ps c.args.props.now ≡ true) (one_part _ cut) c.requires.1.1.1)
 
 pub place_in-returns-in-None-clause-placed : goal.place_in-returns-in-None-clause-placed
 place_in-returns-in-None-clause-placed t c =
@@ -35,10 +34,13 @@ place_in-place-done-requires t c =
     let held = c.in-Ok.ensures.got_there ∙ c.replace-inner.ensures.given in
     let name = c.in-Some.name.now in
     let props = c.args.props.now in
-    let shorter : length c.in-Some.more.now < length c.args.s.now = omega (arith, ap length cut.2, length-drop (position_or_len (λ b. b == 46) c.args.s.now + 1) c.args.s.now, cut.0) in
-    (omega arith,
-    (ends_held _ name props _ held (subst (λ ps. ends_in ps props ≡ true) (others_left _ _ _ cut.0 cut.1 cut.2) c.requires.1.1.0),
-    room_held _ name props _ held (subst (λ ps. HasRoomIn ps props) (cut_parts _ _ _ cut.0 cut.1 cut.2) c.requires.1.1.1)))
+    let shorter : length c.in-Some.more.now < length c.args.s.now = omega (arith, ap length cut.2, length-drop (position_or_len (λ b. b == 46) c.args.s.now + 1) c.args.s.now, cut.0) in (
+      omega arith,
+      (
+        ends_held _ name props _ held (subst (λ ps. ends_in ps props ≡ true) (others_left _ _ _ cut.0 cut.1 cut.2) c.requires.1.1.0),
+        room_held _ name props _ held (subst (λ ps. has_room_in ps props ≡ true) (cut_parts _ _ _ cut.0 cut.1 cut.2) c.requires.1.1.1),
+      ),
+    )
 
 pub place_in-replace-requires : goal.place_in-replace-requires
 place_in-replace-requires t c = within_names _ _ c.in-Some.name.now (ap (λ ns. slice_get ns c.in-Ok.at) c.replace-inner.ensures.same_names ∙ c.in-Ok.ensures.found)
@@ -46,7 +48,7 @@ place_in-replace-requires t c = within_names _ _ c.in-Some.name.now (ap (λ ns. 
 pub place_in-set_property-requires-in-Err : goal.place_in-set_property-requires-in-Err
 place_in-set_property-requires-in-Err t c =
     let cut = rw c.in-Some.is at (split_once_first 46 _ _ c.split_once.ensures.cases (lit< tt)) in
-    room_if_missing (HasRoom c.args.props.now) (HasRoomAlong (parts_of c.in-Some.more.now)) (get_member c.args.props.now c.in-Some.name.now) (subst (λ ps. HasRoomIn ps c.args.props.now) (cut_parts _ _ _ cut.0 cut.1 cut.2) c.requires.1.1.1)
+    room_if_missing _ c.in-Some.name.now c.args.props.now (subst (λ ps. has_room_in ps c.args.props.now ≡ true) (cut_parts _ _ _ cut.0 cut.1 cut.2) c.requires.1.1.1)
 
 pub place_in-returns-in-Ok-clause-placed : goal.place_in-returns-in-Ok-clause-placed
 place_in-returns-in-Ok-clause-placed t c =
