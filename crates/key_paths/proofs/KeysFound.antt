@@ -64,7 +64,7 @@ mutual
   all_again (key_more k ks) = λ i. with_first (within_again k i) (all_again ks i)
 
 mutual
-  same_depth : (k : KeyTree) → depth_of (value_of_key k) ≡ key_depth k
+  pub same_depth : (k : KeyTree) → depth_of (value_of_key k) ≡ key_depth k
   same_depth (number n) = refl
   same_depth (date d) = refl
   same_depth (text s) = refl

@@ -5,3 +5,4 @@ pub mod Units
 pub mod PathEnds
 pub mod Placing
 pub mod FoundAgain
+pub mod StaysCloneable

@@ -1,11 +1,14 @@
 // Injection of keys into values by a key path.
-ghost use Rattle.std.specs.Prelude.{◌≡◌, true, [], None, Some, is_some, IfSome, IfNone, IfOk, OnOk, OnErr, MatchOption};
+ghost use Rattle.std.specs.Prelude.{◌≡◌, ◌≤◌, true, [], None, Some, is_some, IfSome, IfNone, IfOk, OnOk, OnErr, MatchOption};
 ghost use Rattle.clone_values.specs.Limits.{HasRoom};
 ghost use Rattle.clone_values.specs.Names.{get_member, set_member};
-ghost use Rattle.clone_values.specs.Tree.{object, no_members, member_more};
+ghost use Rattle.clone_values.specs.KeyTree.{KeyTree};
+ghost use Rattle.clone_values.specs.Values.{IsCloneable};
+ghost use Rattle.clone_values.specs.declared.path_types.PathSpec.{PathSpec};
+ghost use Rattle.clone_values.specs.Tree.{Tree, object, no_members, member_more};
 ghost use Rattle.clone_values.specs.View.{tree_of, key_tree_of};
-ghost use Rattle.path_grammar.specs.KeyPath.{parts_of};
-ghost use Rattle.key_paths.specs.Conversion.{value_of_key};
+ghost use Rattle.path_grammar.specs.KeyPath.{parts_of, is_key_path};
+ghost use Rattle.key_paths.specs.Conversion.{value_of_key, key_depth};
 ghost use Rattle.key_paths.specs.Evaluation.{evaluated, properties_of};
 ghost use Rattle.key_paths.specs.Injection.{can_inject, injected, has_room_for, is_holder, all_but_last, ends_at_holder, placed, has_room_along, ends_in, placed_in, has_room_in};
 
@@ -191,3 +194,9 @@ fn object_of(alloc: Global, name: &str, value: Value) -> Result<Value, NoMemory>
     props.set(Text::from_string(name), value)?;
     Ok(Value::Object(props))
 }
+
+/// The law of injection: by a valid path, a key without members leaves a value that can be cloned one that can be cloned.
+/// A path has at most 99 identifiers, so such a value is at most 100 deep.
+pub fn injection_laws()
+    ensures cloneable { (path : PathSpec) (t : Tree) (k : KeyTree) → is_key_path path ≡ true → key_depth k ≤ 1 → IsCloneable t → IsCloneable (injected path t k) }
+{}

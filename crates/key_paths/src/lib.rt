@@ -13,7 +13,7 @@ mod multi_entry;
 pub use conversion::{conversion_laws, to_key, to_value};
 pub use evaluation::evaluate;
 pub use extraction::{Extracted, extract};
-pub use injection::{could_inject, has_room, inject};
+pub use injection::{could_inject, has_room, inject, injection_laws};
 
 #[cfg(test)]
 mod tests;
