@@ -2,7 +2,7 @@
 --     onto                  keys found so far, in front of what the rest gives
 --     key_again             the key of a key's value
 use Rattle.std.proofs.lemmas.List.{map-append, append-nil}
-use Rattle.std.proofs.Common.{◌≡◌, ℕ, ◌+◌, ◌≤◌, nat_le, true, List, [], ◌∷◌, ◌++◌, map, Option, Some, None, option_map, max, refl, sym, ◌∙◌, ap, arith}
+use Rattle.std.proofs.Common.{◌≡◌, ◌≤◌, nat_le, true, List, [], ◌∷◌, ◌++◌, map, Option, Some, None, option_map, max, refl, sym, ◌∙◌, ap, arith}
 use Rattle.std.proofs.lemmas.Grind.{common_steps}
 use Rattle.clone_values.specs.Tree.{Tree, trees_of, tree_more}
 use Rattle.clone_values.specs.KeyTree.{KeyTree, KeyTrees, number, date, text, binary, array, no_keys, key_more, key_trees_of}

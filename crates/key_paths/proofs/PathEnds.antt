@@ -2,7 +2,7 @@
 --     holder_so             where it ends well it began at an Object or Array
 --     into, room_into       what is asked of the value, asked of its properties
 --     only_one, goes_on     a string cut at its first full stop
-use Rattle.std.proofs.Common.{nat_lt, ◌≡◌, ℕ, ◌<◌, ◌≤◌, ◌==◌, Bool, true, false, not, ◌&&◌, List, [], ◌∷◌, length, Option, Some, None, option_map, unwrap_or, refl, sym, ◌∙◌, ap, subst, arith}
+use Rattle.std.proofs.Common.{nat_lt, ◌≡◌, ℕ, ◌<◌, ◌≤◌, ◌==◌, Bool, true, false, not, ◌&&◌, List, [], ◌∷◌, length, Option, option_map, unwrap_or, refl, sym, ◌∙◌, ap, arith}
 use Rattle.std.specs.Cmp.{first_so, second_so}
 use Rattle.std.specs.List.{position_or_len, before_first, after_first}
 use Rattle.clone_values.specs.Tree.{Tree}

@@ -1,7 +1,7 @@
 -- What stands in a property is taken out, changed and put back.
 --     within_names          a place with a name is in the list
 --     back_as_placed, back_as_it_was     the list after that, and after that failed
-use Rattle.std.proofs.Common.{Bool, nat_lt, ltb-true, Result, Ok, Err, OnOk, OnErr, ◌≡◌, ℕ, zero, suc, ◌<◌, ◌≤◌, true, List, [], ◌∷◌, length, Option, Some, None, option_map, unwrap_or, MatchOption, slice_get, slice_set, refl, sym, ◌∙◌, ap, subst, arith}
+use Rattle.std.proofs.Common.{Bool, nat_lt, ltb-true, Result, Ok, Err, OnOk, OnErr, ◌≡◌, ℕ, zero, suc, ◌<◌, ◌≤◌, true, List, [], ◌∷◌, length, Option, Some, None, option_map, unwrap_or, MatchOption, slice_get, slice_set, refl, sym, ◌∙◌, ap, arith}
 use Rattle.clone_values.specs.Limits.{HasRoom}
 use Rattle.clone_values.specs.Tree.{Tree, object, no_members}
 use Rattle.clone_values.specs.View.{tree_of}
@@ -9,7 +9,7 @@ use Rattle.clone_values.specs.declared.value_types.Value.{Value}
 use Rattle.clone_values.specs.declared.value_types.Value.TheVariants as value
 use Rattle.clone_values.specs.Names.{names_of, get_member, set_member, HasNameAt}
 use Rattle.key_paths.specs.Evaluation.{properties_of}
-use Rattle.key_paths.specs.Injection.{is_holder, ends_at_holder, ends_in, held, placed, placed_in, with_properties, has_room_along, has_room_in}
+use Rattle.key_paths.specs.Injection.{is_holder, ends_at_holder, ends_in, placed, placed_in, with_properties, has_room_along, has_room_in}
 
 pub within_names : (ms : List (List ℕ × Tree)) (i : ℕ) (n : List ℕ) → HasNameAt ms i n → i < length ms
 within_names [] i n e = cc

@@ -10,7 +10,7 @@ use Rattle.std.specs.declared.cmp.Ordering.TheVariants.{Less, Equal, Greater}
 use Rattle.clone_values.specs.Tree.{Tree, Members, array, object, no_members, member_more, members_of, list_of_members}
 use Rattle.clone_values.specs.KeyTree.{KeyTree, KeyTrees, number, date, text, binary, array as keys_array, no_keys, key_more}
 use Rattle.clone_values.specs.Names.{set_member}
-use Rattle.clone_values.specs.Values.{depth_of, trees_depth, members_depth, holds_function, trees_hold_function, members_hold_function, IsCloneable}
+use Rattle.clone_values.specs.Values.{depth_of, members_depth, holds_function, trees_hold_function, members_hold_function, IsCloneable}
 use Rattle.clone_values.specs.declared.path_types.PathSpec.{PathSpec}
 use Rattle.clone_values.specs.declared.path_types.PathSpec.TheVariants.{One, Many}
 use Rattle.path_grammar.specs.KeyPath.{parts_of, is_identifier, is_path_string, is_key_path}

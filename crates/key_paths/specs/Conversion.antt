@@ -3,7 +3,7 @@
 --     keys_of               the keys of a list of items, each once: multi-entry conversion
 --     value_of_key          the value of a key
 --     key_depth             how deep a key is
-use Rattle.std.specs.Prelude.{ℕ, ◌+◌, Bool, not, nat_le, max, List, [], ◌∷◌, if◌then◌else◌, Option, Some, None, option_map}
+use Rattle.std.specs.Prelude.{ℕ, ◌+◌, not, nat_le, max, List, [], ◌∷◌, if◌then◌else◌, Option, Some, None, option_map}
 use Rattle.std.specs.List.{filter, filter_map}
 use Rattle.std.specs.Ordering.{is_eq}
 use Rattle.clone_values.specs.Tree.{Tree, Trees, int, date, text, bytes, array, no_trees, tree_more, no_members}

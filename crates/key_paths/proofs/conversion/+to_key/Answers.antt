@@ -1,4 +1,4 @@
-use Rattle.std.proofs.Common.{◌≡◌, ◌≤◌, drop, length, List, [], sym, ◌∙◌, ap, arith, option_map}
+use Rattle.std.proofs.Common.{◌≤◌, length, sym, ◌∙◌, ap, arith, option_map}
 use Rattle.std.proofs.lemmas.List.{drop_all}
 use Rattle.clone_values.specs.View.{tree_of, key_tree_of}
 use Rattle.key_paths.proofs.KeysFound.{item_invalid, item_valid, all_valid}

@@ -1,4 +1,4 @@
-use Rattle.std.proofs.Common.{true, false, Some, None, sym, ◌∙◌, ap, lit<}
+use Rattle.std.proofs.Common.{false, Some, None, ◌∙◌, ap, lit<}
 use Rattle.std.proofs.lemmas.Str.Pattern.{split_once_first}
 use Rattle.clone_values.specs.View.{tree_of}
 use Rattle.clone_values.specs.Names.{get_member}

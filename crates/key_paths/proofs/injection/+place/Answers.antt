@@ -1,4 +1,4 @@
-use Rattle.std.proofs.Common.{◌≡◌, [], ◌∷◌, ◌+◌, ◌==◌, true, ◌<◌, length-drop, OnOk, OnErr, sym, ◌∙◌, ap, subst, lit<, arith, length, slice_get, unwrap_or}
+use Rattle.std.proofs.Common.{◌≡◌, [], ◌+◌, ◌==◌, true, ◌<◌, length-drop, OnOk, sym, ◌∙◌, ap, subst, lit<, arith, length, slice_get, unwrap_or}
 use Rattle.std.proofs.lemmas.Result.{on_err_weaker, on_ok_weaker}
 use Rattle.std.proofs.lemmas.Str.Pattern.{split_once_first}
 use Rattle.clone_values.specs.Tree.{undefined, array, object, no_members, trees_of, members_of}

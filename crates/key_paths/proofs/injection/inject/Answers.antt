@@ -1,9 +1,8 @@
-use Rattle.std.proofs.Common.{◌≡◌, true, None, Some, sym, ◌∙◌, ap, subst}
+use Rattle.std.proofs.Common.{◌≡◌, true, None, sym, ◌∙◌, ap, subst}
 use Rattle.std.proofs.lemmas.Result.{on_ok_weaker}
 use Rattle.clone_values.specs.View.{tree_of, key_tree_of}
 use Rattle.clone_values.specs.declared.path_types.PathSpec.TheVariants.{One}
 use Rattle.path_grammar.specs.KeyPath.{parts_of}
-use Rattle.key_paths.specs.Conversion.{value_of_key}
 use Rattle.key_paths.specs.Evaluation.{evaluated}
 use Rattle.key_paths.specs.Injection.{can_inject, placed}
 use Rattle.key_paths.proofs.FoundAgain.{string_found}
