@@ -6,3 +6,4 @@ pub mod PathEnds
 pub mod Placing
 pub mod FoundAgain
 pub mod StaysCloneable
+pub mod KeyDepths

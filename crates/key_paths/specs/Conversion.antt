@@ -3,8 +3,8 @@
 --     keys_of               the keys of a list of items, each once: multi-entry conversion
 --     value_of_key          the value of a key
 --     key_depth             how deep a key is
-use Rattle.std.specs.Prelude.{ℕ, ◌+◌, not, nat_le, max, List, [], ◌∷◌, if◌then◌else◌, Option, Some, None, option_map}
-use Rattle.std.specs.List.{filter, filter_map}
+use Rattle.std.specs.Prelude.{◌≢◌, ℕ, ◌+◌, not, nat_le, max, List, [], ◌∷◌, if◌then◌else◌, Option, Some, None, option_map}
+use Rattle.std.specs.List.{All, filter, filter_map}
 use Rattle.std.specs.Ordering.{is_eq}
 use Rattle.clone_values.specs.Tree.{Tree, Trees, int, date, text, bytes, array, no_trees, tree_more, no_members}
 use Rattle.clone_values.specs.KeyTree.{KeyTree, KeyTrees, no_keys, key_more}
@@ -43,6 +43,11 @@ each_once (k ∷ ks) = k ∷ filter (λ j. not (is_eq (key_cmp j k))) (each_once
 -- the valid items as keys, in order, each key once; invalid items are skipped
 abbrev pub keys_of : List Tree → List KeyTree
 keys_of ts = each_once (filter_map key_of ts)
+
+-- no key stands twice
+abbrev pub AreDistinct : List KeyTree → Type 0
+AreDistinct [] = Unit {0}
+AreDistinct (k ∷ ks) = All (λ j. j ≢ k) ks × AreDistinct ks
 
 -- a key as a value
 abbrev mutual

@@ -1,9 +1,10 @@
 // Conversion of values to keys, and of keys to values.
-ghost use Rattle.std.specs.Prelude.{◌≡◌, ℕ, ◌≤◌, Some, option_map, IfOk};
-ghost use Rattle.clone_values.specs.Tree.{trees_of};
+ghost use Rattle.std.specs.Prelude.{◌≡◌, ℕ, ◌≤◌, List, Some, option_map, IfOk, IfSome};
+ghost use Rattle.std.specs.List.{All};
+ghost use Rattle.clone_values.specs.Tree.{Tree, trees_of};
 ghost use Rattle.clone_values.specs.KeyTree.{KeyTree, key_trees_of};
 ghost use Rattle.clone_values.specs.View.{tree_of, key_tree_of};
-ghost use Rattle.key_paths.specs.Conversion.{key_of, key_within, keys_within, value_of_key, values_of_keys, key_depth};
+ghost use Rattle.key_paths.specs.Conversion.{key_of, key_within, keys_within, keys_of, value_of_key, values_of_keys, key_depth, AreDistinct};
 
 use clone_values::{Items, Key, Keys, NoMemory, Props, Value, depth};
 use std::alloc::Global;
@@ -89,7 +90,11 @@ fn values_of(alloc: Global, keys: &Keys) -> Result<Items, NoMemory>
     Ok(Items::from_vec(items))
 }
 
-/// The law of conversion: the key of a key's value is that key, for every key that is at most 100 deep.
+/// The laws of conversion: the key of a key's value is that key, for every key that is at most 100 deep; every key of a
+/// value and of an item is at most 100 deep; multi-entry conversion gives no key twice.
 pub fn conversion_laws()
     ensures again { (k : KeyTree) → key_depth k ≤ 100 → key_of (value_of_key k) ≡ Some k }
+    ensures shallow { (t : Tree) → IfSome (key_of t) (λ k. key_depth k ≤ 100) }
+    ensures all_shallow { (ts : List Tree) → All (λ k. key_depth k ≤ 100) (keys_of ts) }
+    ensures once { (ts : List Tree) → AreDistinct (keys_of ts) }
 {}
