@@ -1,18 +1,15 @@
 -- One step down: from a value to its body.
-use Rattle.std.proofs.Common.{◌≡◌, ℕ, zero, suc, ◌-◌, ◌≤◌, List, [], ◌∷◌, length, map, Option, Some, None, refl, sym, ◌∙◌, ap, Bool, true, false, arith}
+use Rattle.std.proofs.Common.{◌≡◌, ℕ, zero, suc, ◌-◌, ◌≤◌, List, [], ◌∷◌, length, map, Option, Some, None, refl, sym, ◌∙◌, Bool, true, false, arith}
 use Rattle.std.specs.Str.{IsUtf8, is_utf8}
 use Rattle.std.proofs.lemmas.Str.{is_utf8-from_IsUtf8, IsUtf8-from_is_utf8}
 use Rattle.std.proofs.lemmas.Bool.{false_from_ne_true}
-use Rattle.clone_values.specs.Tree.{Tree}
 use Rattle.clone_values.specs.Names.{names_of, is_rising}
 use Rattle.clone_values.specs.View.{prop_of}
 use Rattle.clone_values.specs.declared.value_types.Prop.{Prop}
-use Rattle.value_bytes.specs.declared.kinds.Kind.{Kind}
 use Rattle.value_bytes.specs.declared.fields.ReadError.{ReadError}
 use Rattle.value_bytes.specs.declared.fields.ReadError.TheVariants as error
 use Rattle.value_bytes.proofs.Loop.{Fails}
 use Rattle.value_bytes.specs.Steps.{◌>>=◌, byte_at, string_at, text_at, checked_at}
-use Rattle.clone_values.specs.KeyTree.{KeyTree}
 use Rattle.value_bytes.specs.KeyReading.{key_kind_of, key_body_at, key_at}
 use Rattle.value_bytes.specs.Reading.{kind_of, body_at, value_at}
 

@@ -1,7 +1,6 @@
 -- A list of values is fit to be spelled exactly where each of its members is.
-use Rattle.std.proofs.Common.{◌≡◌, ℕ, zero, suc, ◌+◌, ◌<◌, ◌≤◌, ◌^◌, Bool, true, false, ◌&&◌, ◌||◌, List, [], ◌∷◌, ◌++◌, length, refl, sym, ap, arith}
+use Rattle.std.proofs.Common.{◌≡◌, ℕ, ◌≤◌, Bool, true, false, ◌&&◌, ◌||◌, List, [], ◌∷◌, ◌++◌, refl, ap, arith}
 use Rattle.std.specs.List.{flat_map, AllByRecursion, list_all}
-use Rattle.std.specs.Str.{IsUtf8}
 use Rattle.std.specs.Cmp.{first_so, second_so}
 use Rattle.clone_values.specs.Tree.{Tree, Trees, Members, PairTrees, no_trees, tree_more, no_members, member_more, no_pairs, pair_more, trees_of, members_of, pairs_of, list_of_trees, list_of_members, list_of_pairs}
 use Rattle.clone_values.specs.Names.{names_of}

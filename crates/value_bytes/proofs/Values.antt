@@ -1,12 +1,11 @@
 -- A value is read exactly where it is spelled.
-use Rattle.std.proofs.Common.{◌≡◌, ℕ, zero, suc, ◌+◌, ◌-◌, ◌<◌, ◌≤◌, ◌^◌, Bool, true, false, ◌&&◌, ◌||◌, cond, eqb, ℤ, List, [], ◌∷◌, ◌++◌, length, drop, map, Option, Some, None, refl, sym, ap, subst, ◌∙◌, append_assoc, arith, w64, FitsSigned, true≢false}
+use Rattle.std.proofs.Common.{◌≡◌, ℕ, zero, suc, ◌-◌, ◌<◌, ◌≤◌, ◌^◌, Bool, true, false, ◌&&◌, ◌||◌, List, [], ◌∷◌, ◌++◌, length, drop, map, Some, refl, sym, ap, subst, ◌∙◌, arith, true≢false}
 use Rattle.std.specs.List.{flat_map, AllByRecursion, list_all}
 use Rattle.std.specs.Cmp.{first_so, second_so}
 use Rattle.std.proofs.lemmas.List.{append-nil}
-use Rattle.std.proofs.lemmas.Bool.{eqb-true}
-use Rattle.clone_values.specs.Tree.{Tree, Trees, Members, PairTrees, undefined, null, boolean, int, text, date, bytes, array, object, map_object, set_object, function, no_trees, tree_more, no_members, member_more, no_pairs, pair_more, trees_of, members_of, pairs_of, list_of_trees, list_of_members, list_of_pairs}
+use Rattle.clone_values.specs.Tree.{Tree, Trees, Members, PairTrees, undefined, null, boolean, int, text, date, bytes, array, object, map_object, set_object, function, trees_of, members_of, pairs_of, list_of_trees, list_of_members, list_of_pairs}
 use Rattle.clone_values.specs.Names.{names_of, is_rising}
-use Rattle.clone_values.specs.WellFormed.{is_value, are_values, member_values, pair_values, is_within_limit, is_int, is_date, are_once, is_array_name, are_properties}
+use Rattle.clone_values.specs.WellFormed.{are_values, member_values, pair_values, is_within_limit, is_int, is_date, are_once, is_array_name, are_properties}
 use Rattle.clone_values.specs.Values.{depth_of, members_depth, members_hold_function, trees_hold_function}
 use Rattle.clone_values.proofs.Lists.{trees_again, members_again, pairs_again}
 use Rattle.value_bytes.specs.declared.kinds.Kind.{Kind}
@@ -14,7 +13,7 @@ use Rattle.value_bytes.specs.declared.kinds.Kind.TheVariants as kind
 use Rattle.value_bytes.specs.declared.fields.ReadError.{ReadError}
 use Rattle.value_bytes.specs.declared.fields.ReadError.TheVariants as error
 use Rattle.value_bytes.proofs.Loop.{Fails}
-use Rattle.value_bytes.specs.Spelling.{count_bytes, number_bytes, string_bytes, bool_bytes, MembersAreUnicode, SpellsValue, ValueStands, spelling_of, items_spelling, members_spelling, pairs_spelling}
+use Rattle.value_bytes.specs.Spelling.{count_bytes, number_bytes, string_bytes, MembersAreUnicode, SpellsValue, ValueStands, spelling_of, items_spelling, members_spelling, pairs_spelling}
 use Rattle.value_bytes.specs.Steps.{◌>>=◌, byte_at, number_at, string_at, text_at, mapped_at, checked_at, pair_at, counted_at}
 use Rattle.value_bytes.specs.Reading.{kind_of, properties_at, array_at, map_at, set_at, body_at, value_at}
 use Rattle.value_bytes.proofs.Formats.{IsBytes, behind, bind_some, some_is, Took, Format, checked, pair, apart, stands, none_stands, this_kind, first_byte, Gave, made, remade, within_limit, limit_within}

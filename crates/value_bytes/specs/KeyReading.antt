@@ -1,7 +1,7 @@
 -- Reading a key from the front of a list of bytes.
 --     key_at            a key that is at most so deep
 --     key_body_at       what stands behind the byte of a kind, with the reader of members
-use Rattle.std.specs.Prelude.{ℕ, zero, suc, Bool, true, false, List, Option, Some, None, ◌==◌, if◌then◌else◌}
+use Rattle.std.specs.Prelude.{ℕ, zero, suc, List, Option, Some, None, ◌==◌, if◌then◌else◌}
 use Rattle.clone_values.specs.KeyTree.{KeyTree, number, date, text, binary, array, key_trees_of}
 use Rattle.clone_values.specs.WellFormed.{is_int, is_date}
 use Rattle.value_bytes.specs.declared.kinds.KeyKind.{KeyKind}

@@ -1,7 +1,7 @@
 -- Reading a value from the front of a list of bytes.
 --     value_at      a value that is at most so deep
 --     body_at       what stands behind the byte of a kind, with the reader of members
-use Rattle.std.specs.Prelude.{ℕ, zero, suc, Bool, true, false, List, map, Option, Some, None, ◌==◌, if◌then◌else◌}
+use Rattle.std.specs.Prelude.{ℕ, zero, suc, true, false, List, map, Option, Some, None, ◌==◌, if◌then◌else◌}
 use Rattle.std.specs.List.{list_all}
 use Rattle.clone_values.specs.Tree.{Tree, undefined, null, boolean, int, text, date, bytes, array, object, map_object, set_object, trees_of, members_of, pairs_of}
 use Rattle.clone_values.specs.Names.{names_of, is_rising}

@@ -1,4 +1,4 @@
-use Rattle.std.proofs.Common.{◌≡◌, drop, arith}
+use Rattle.std.proofs.Common.{arith}
 use Rattle.std.proofs.lemmas.Result.{err_from_is_err_and}
 use Rattle.clone_values.specs.View.{key_tree_of}
 use Rattle.value_bytes.proofs.KeyValues.{key_stands, key_refused}

@@ -1,9 +1,5 @@
-use Rattle.std.proofs.Common.{◌≡◌, ◌++◌, true, length, drop}
 use Rattle.clone_values.specs.KeyTree.{key_size, keys_size, key_trees_of}
 use Rattle.clone_values.specs.View.{key_tree_of}
-use Rattle.value_bytes.specs.Spelling.{count_bytes}
-use Rattle.value_bytes.specs.KeySpelling.{are_keys, keys_spelling, KeysAreUnicode}
-use Rattle.value_bytes.specs.Writing.{BeginsWith}
 use Rattle.value_bytes.proofs.Puts.{KeysPut}
 use Rattle.value_bytes.proofs.key_writing.+put.Given as goal
 

@@ -1,4 +1,4 @@
-use Rattle.std.proofs.Common.{◌≡◌, ◌-◌, drop, sym, ◌∙◌, arith, length-drop}
+use Rattle.std.proofs.Common.{◌-◌, drop, sym, ◌∙◌, arith, length-drop}
 use Rattle.value_bytes.proofs.Bodies.{few_rise}
 use Rattle.value_bytes.proofs.names.names_rise.Goals as goal
 

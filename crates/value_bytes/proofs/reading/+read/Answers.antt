@@ -4,7 +4,7 @@ use Rattle.std.proofs.lemmas.List.{map_push}
 use Rattle.clone_values.specs.View.{tree_of, prop_of, pair_of}
 use Rattle.clone_values.specs.Names.{names_of, is_rising}
 use Rattle.clone_values.specs.declared.value_types.Prop.{Prop}
-use Rattle.value_bytes.specs.Steps.{Gives, text_at, counted_at, pair_at}
+use Rattle.value_bytes.specs.Steps.{text_at, counted_at, pair_at}
 use Rattle.value_bytes.specs.Reading.{kind_of, body_at, value_at}
 use Rattle.value_bytes.proofs.Loop.{goes_on, ends, is_done}
 use Rattle.value_bytes.proofs.Bodies.{value_none, value_step, no_byte, no_kind, has_body, fails_checked, passes, fails_test}

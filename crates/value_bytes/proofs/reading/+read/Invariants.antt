@@ -1,4 +1,4 @@
-use Rattle.std.proofs.Common.{◌≡◌, ℕ, ◌+◌, ◌*◌, ◌-◌, map}
+use Rattle.std.proofs.Common.{◌≡◌, ◌+◌, ◌*◌, ◌-◌, map}
 use Rattle.clone_values.specs.View.{tree_of, prop_of, pair_of}
 use Rattle.value_bytes.specs.Steps.{text_at, pair_at, many_at, counted_at}
 use Rattle.value_bytes.specs.Reading.{value_at}

@@ -1,7 +1,7 @@
-use Rattle.std.proofs.Common.{◌≡◌, ◌+◌, ◌++◌, ◌∷◌, [], length, sym, ap, subst, ◌∙◌, arith}
+use Rattle.std.proofs.Common.{◌+◌, ◌++◌, ◌∷◌, [], length, sym, ap, subst, ◌∙◌, arith}
 use Rattle.std.proofs.lemmas.Result.{on_ok_weaker, on_err_weaker}
 use Rattle.clone_values.specs.Falls.{smaller_member, smaller_pair}
-use Rattle.clone_values.specs.Tree.{tree_size, trees_of, members_of, pairs_of}
+use Rattle.clone_values.specs.Tree.{tree_size, trees_of}
 use Rattle.clone_values.specs.View.{tree_of, prop_of, pair_of}
 use Rattle.clone_values.specs.WellFormed.{is_value}
 use Rattle.value_bytes.specs.Spelling.{count_bytes, spelling_of, items_spelling}

@@ -1,10 +1,8 @@
 use Rattle.std.proofs.Common.{◌≡◌, ◌+◌, ◌*◌, ◌++◌, true, length, drop}
-use Rattle.std.specs.List.{list_all}
-use Rattle.clone_values.specs.Names.{names_of}
 use Rattle.clone_values.specs.Tree.{tree_size, trees_size, members_size, pairs_size, trees_of, members_of, pairs_of}
 use Rattle.clone_values.specs.View.{tree_of}
-use Rattle.clone_values.specs.WellFormed.{are_values, member_values, pair_values, is_within_limit}
-use Rattle.value_bytes.specs.Spelling.{count_bytes, items_spelling, members_spelling, pairs_spelling, ItemsAreUnicode, MembersAreUnicode, PairsAreUnicode}
+use Rattle.clone_values.specs.WellFormed.{are_values}
+use Rattle.value_bytes.specs.Spelling.{count_bytes, items_spelling, ItemsAreUnicode}
 use Rattle.value_bytes.specs.Writing.{BeginsWith}
 use Rattle.value_bytes.proofs.Puts.{PropsPut, PairsPut}
 use Rattle.value_bytes.proofs.writing.+put.Given as goal
