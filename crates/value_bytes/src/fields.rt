@@ -1,12 +1,11 @@
 // The fields that spellings are made of, read from the front of the bytes that are left.
-ghost use Rattle.std.specs.Prelude.{◌≡◌, ℕ, ◌+◌, ◌≤◌, List, length, map, IfOk};
-ghost use Rattle.std.specs.Str.{IsUtf8};
+ghost use Rattle.std.specs.Prelude.{◌≡◌, length, IfOk};
 ghost use Rattle.clone_values.specs.Limits.{IsWithinLimit};
 ghost use Rattle.clone_values.specs.WellFormed.{is_int, is_date};
 ghost use Rattle.value_bytes.specs.Steps.{Gives, byte_at, count_at, number_at, front_at, string_at, text_at, checked_at};
 
 use clone_values::{Bytes, NoMemory, Text};
-use std::alloc::{AllocError, AllocFailed, Global};
+use std::alloc::{AllocFailed, Global};
 
 /// Why nothing was read.
 #[derive(Clone, Copy, Debug, PartialEq, Eq)]
@@ -126,12 +125,7 @@ pub(crate) fn bytes_from(alloc: Global, rest: &mut &[u8]) -> Result<Bytes, ReadE
 }
 
 fn bytes_of(alloc: Global, bytes: &[u8]) -> Result<Bytes, NoMemory>
-    requires { IsWithinLimit bytes.now }
     ensures { IfOk result (λ b. b ≡ bytes.now) }
 {
-    let mut copy = Bytes::new(alloc);
-    for byte in bytes {
-        copy.push(*byte)?;
-    }
-    Ok(copy)
+    Ok(Bytes::from_vec(Vec::from_slice(alloc, bytes)?))
 }

@@ -1,5 +1,5 @@
 // Keys, read from their bytes.
-ghost use Rattle.std.specs.Prelude.{◌≡◌, ℕ, IfOk, IsErrOf};
+ghost use Rattle.std.specs.Prelude.{ℕ, IfOk, IsErrOf};
 ghost use Rattle.clone_values.specs.KeyTree.{KeyTree};
 ghost use Rattle.clone_values.specs.View.{key_tree_of};
 ghost use Rattle.value_bytes.specs.KeySpelling.{KeyStands};

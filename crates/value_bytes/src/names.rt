@@ -1,5 +1,5 @@
 // Tests of the names of properties.
-ghost use Rattle.std.specs.Prelude.{◌≡◌, ℕ, map};
+ghost use Rattle.std.specs.Prelude.{◌≡◌, map};
 ghost use Rattle.std.specs.List.{list_all};
 ghost use Rattle.clone_values.specs.Names.{is_rising, names_of};
 ghost use Rattle.clone_values.specs.View.{prop_of};

@@ -1,6 +1,5 @@
 // Values, read from their bytes.
-ghost use Rattle.std.specs.Prelude.{◌≡◌, ℕ, ◌+◌, ◌≤◌, List, length, map, IfOk, IsErrOf};
-ghost use Rattle.clone_values.specs.Names.{is_rising, names_of};
+ghost use Rattle.std.specs.Prelude.{ℕ, IfOk, IsErrOf};
 ghost use Rattle.clone_values.specs.Tree.{Tree};
 ghost use Rattle.clone_values.specs.View.{tree_of, prop_of, pair_of};
 ghost use Rattle.value_bytes.specs.Spelling.{ValueStands};

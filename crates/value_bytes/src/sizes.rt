@@ -1,5 +1,5 @@
 // How many bytes a value's spelling has.
-ghost use Rattle.std.specs.Prelude.{◌≡◌, ℕ, ◌+◌, min, length};
+ghost use Rattle.std.specs.Prelude.{◌≡◌, ◌+◌, min, length};
 ghost use Rattle.clone_values.specs.Tree.{trees_of, members_of, pairs_of};
 ghost use Rattle.clone_values.specs.View.{tree_of};
 ghost use Rattle.value_bytes.specs.Spelling.{spelling_of, items_spelling, members_spelling, pairs_spelling};

@@ -1,12 +1,11 @@
 // Values, written as their bytes.
-ghost use Rattle.std.specs.Prelude.{◌≡◌, ◌≤◌, ◌++◌, true, length, OnOk, OnErr};
+ghost use Rattle.std.specs.Prelude.{◌≡◌, ◌++◌, true, length, OnOk, OnErr};
 ghost use Rattle.std.specs.Str.{IsUtf8};
 ghost use Rattle.clone_values.specs.Limits.{IsWithinLimit};
-ghost use Rattle.clone_values.specs.Names.{names_of};
 ghost use Rattle.clone_values.specs.Tree.{trees_of, members_of, pairs_of};
 ghost use Rattle.clone_values.specs.View.{tree_of};
 ghost use Rattle.clone_values.specs.Values.{IsCloneable};
-ghost use Rattle.clone_values.specs.WellFormed.{IsValue, is_value, are_values, member_values, pair_values, is_within_limit, are_properties};
+ghost use Rattle.clone_values.specs.WellFormed.{IsValue, is_value, are_values, member_values, pair_values, are_properties};
 ghost use Rattle.value_bytes.specs.Spelling.{SpellsValue, IsUnicode, ItemsAreUnicode, MembersAreUnicode, PairsAreUnicode, spelling_of, items_spelling, members_spelling, pairs_spelling, count_bytes, string_bytes};
 ghost use Rattle.value_bytes.specs.Writing.{BeginsWith};
 
