@@ -104,6 +104,14 @@ module _ {D : Type 0} (reads : D → Option Areas) (may_leave : D → Areas → 
             let same : given ≡ from.given = cc (was, from.was_given) in
             ap (λ (a : Areas). batches_before gate (area_of area a)) same ∙ sym (same_before gate (area_of area areas) (area_of area from.given) from.stepped.here)
 
+        -- each image has them, or these and the one that failed
+        pub doubts : (batches : BatchList) → WhereTold (reads new) (λ areas. batches_before gate (area_of area areas) ≡ batches)
+            → ((image : Areas) → may_leave new image → (areas : Areas) × (reads new ≡ Some areas)) → (image : Areas) → may_leave new image → IsBeforeOrAfter batches (gate, payload) image
+        doubts batches has are_told image left =
+            let told = are_told image left in
+            subst (λ (bs : BatchList). IsBeforeOrAfter bs (gate, payload) image) (has told.0 told.1)
+            (now moment left_since old new may_leave _ (moments (batches_before gate (area_of area told.0)) (before_now told.0 told.1)) counts_now image left)
+
         -- and the log keeps what a faulted log does
         pub keeps_faulted : (count : ℕ) → count ≡ faults new → IsKept reads may_leave length_of faults new area generation gate (Some count)
         keeps_faulted count counts = record {
@@ -155,3 +163,15 @@ keeps_untouched reads may_leave length_of faults moment left_since old new area 
   in_doubt = λ count is areas told.
       ∥∥₁_map (kept.in_doubt count is areas (sym quiet.same_reads ∙ told)) (λ w. (w.0, λ image left. w.1 image (quiet.no_new_image image left)));
 }
+
+-- after an append that failed, each image has the log's batches, or these and one more
+pub in_doubt : {D : Type 0} (reads : D → Option Areas) (may_leave : D → Areas → Type 0) (length_of : D → Area → ℕ) (faults : D → ℕ) (disk : D) (area : Area) (generation gate : ℕ) (seen : Option ℕ)
+    → IsKept reads may_leave length_of faults disk area generation gate seen → ((image : Areas) → may_leave disk image → (areas : Areas) × (reads disk ≡ Some areas)) → (count : ℕ) → seen ≡ Some count
+    → ∥ ((payload : List ℕ) × ((batches : BatchList) → WhereTold (reads disk) (λ areas. batches_before gate (area_of area areas) ≡ batches) → (image : Areas) → may_leave disk image → IsBeforeOrAfter batches (gate, payload) image)) ∥₁
+in_doubt reads may_leave length_of faults disk area generation gate seen kept are_told count is = by_reads (reads disk) refl
+  where
+    by_reads : (now : Option Areas) → reads disk ≡ now
+        → ∥ ((payload : List ℕ) × ((batches : BatchList) → WhereTold (reads disk) (λ areas. batches_before gate (area_of area areas) ≡ batches) → (image : Areas) → may_leave disk image → IsBeforeOrAfter batches (gate, payload) image)) ∥₁
+    by_reads None untold = ∣ ([], λ batches has image left. let told = are_told image left in absurd (cc (told.1, untold))) ∣₁
+    by_reads (Some areas) told = ∥∥₁_map (kept.in_doubt count is areas told)
+        (λ w. (w.0, λ batches has image left. subst (λ (bs : BatchList). IsBeforeOrAfter bs (gate, w.0) image) (has areas told) (w.1 image left)))

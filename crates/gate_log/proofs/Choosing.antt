@@ -1,5 +1,5 @@
 -- Which area is live, and what a stop leaves while its end is repaired.
-use Rattle.std.proofs.Common.{◌≡◌, ⊎_elim, ℕ, ◌+◌, ◌<◌, List, [], ◌∷◌, ◌++◌, length, get_or, take, drop, eqb, true, refl, sym, ◌∙◌, ap, subst, arith, take-append-drop}
+use Rattle.std.proofs.Common.{◌≡◌, Ok, ⊎_elim, ℕ, ◌+◌, ◌<◌, List, [], ◌∷◌, ◌++◌, length, get_or, take, drop, eqb, true, refl, sym, ◌∙◌, ap, subst, arith, take-append-drop}
 use Rattle.std.proofs.lemmas.Bool.{cond-true, cases_order, eq-eqb, lt-ltb}
 use Rattle.std.proofs.lemmas.List.{drop_more, length-take-le}
 use Rattle.disk_trait.specs.declared.area.Area.{Area}
@@ -7,7 +7,7 @@ use Rattle.disk_trait.specs.declared.area.Area.TheVariants.{Zero, One}
 use Rattle.disk_trait.specs.Areas.{Areas, area_of, other_area, same_areas}
 use Rattle.disk_trait.specs.Disk.{OnArea}
 use Rattle.gate_log.specs.Sealed.{BatchList, Open, Fault, is_open, sealed_of}
-use Rattle.gate_log.specs.Found.{Found, Damaged, found_in, found_of, batches_in, counts_for_nothing, SameBatches}
+use Rattle.gate_log.specs.Found.{Found, Nothing, Live, Damaged, found_in, found_of, meaning_of, batches_in, counts_for_nothing, SameBatches}
 use Rattle.gate_log.specs.Scan.{EndsAt, IsGatePlace}
 use Rattle.gate_log.specs.Choice.{ChoiceIs, ChoiceFits}
 use Rattle.gate_log.specs.Kept.{batches_before}
@@ -77,3 +77,9 @@ module _ (area : Area) (generation gate : ℕ) (given : Areas) (ends : EndsAt ge
 pub fits_area : (area : Area) (generation gate : ℕ) (len : Area → ℕ) → ChoiceFits (choice.Live area generation gate) (len Zero) (len One) → IsGatePlace gate (len area)
 fits_area Zero generation gate len fits = fits
 fits_area One generation gate len fits = fits
+
+-- what was found stood for the batches
+pub found_stands : (area : Area) (generation : ℕ) (batches : BatchList) (found : Found) → FoundAs area generation batches found → meaning_of found ≡ Ok batches
+found_stands area generation batches Nothing is = ap (λ (bs : BatchList). Ok bs) (sym is.2)
+found_stands area generation batches (Live live number others) is = ap (λ (bs : BatchList). Ok bs) (sym is.2)
+found_stands area generation batches (Damaged damaged place) is = absurd is

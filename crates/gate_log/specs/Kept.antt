@@ -1,6 +1,8 @@
 -- What a log keeps of its disk, and the words for it.
 use Rattle.std.specs.Prelude.{◌≡◌, ◌⊎◌, ℕ, ◌+◌, ◌-◌, ◌^◌, ◌≤◌, List, [], ◌∷◌, ◌++◌, length, take, drop, true, Option, Ok, length}
 use Rattle.std.specs.Option.{ForNone, ForSome}
+use Rattle.std.proofs.Common.{inl, inr, ap, arith, length-append}
+use Rattle.std.proofs.Props.{props}
 use Rattle.std.specs.Int.{w64, to_be_bytes}
 use Rattle.disk_trait.specs.declared.area.Area.{Area}
 use Rattle.disk_trait.specs.Areas.{Areas, area_of, other_area}
@@ -20,6 +22,21 @@ payload_of bytes = take (length bytes - 9) (drop 8 bytes)
 -- the areas stand for these batches, or for these and one more
 abbrev pub IsBeforeOrAfter : BatchList → ℕ × List ℕ → Areas → Type 0
 IsBeforeOrAfter batches batch areas = (batches_in areas ≡ Ok batches) ⊎ (batches_in areas ≡ Ok (batches ++ batch ∷ []))
+
+-- It has at most one proof, so that a ghost field can keep it: the two cases exclude each other.
+pub is_before_or_after_prop : (batches : BatchList) (batch : ℕ × List ℕ) (areas : Areas) → IsProp (IsBeforeOrAfter batches batch areas)
+is_before_or_after_prop batches batch areas = apart (hlevel props) (hlevel props) never_both
+  where
+    apart : {A B : Type 0} → IsProp A → IsProp B → (A → B → ⊥) → IsProp (A ⊎ B)
+    apart one other never (inl a) (inl b) = ap (λ x. inl x) (one a b)
+    apart one other never (inl a) (inr b) = absurd (never a b)
+    apart one other never (inr a) (inl b) = absurd (never b a)
+    apart one other never (inr a) (inr b) = ap (λ x. inr x) (other a b)
+
+    never_both : batches_in areas ≡ Ok batches → batches_in areas ≡ Ok (batches ++ batch ∷ []) → ⊥
+    never_both before after =
+        let same : batches ≡ batches ++ batch ∷ [] = cc in
+        omega (arith, ap length same, length-append batches (batch ∷ []))
 
 -- the batches of an area that stands for some
 abbrev pub batches_of : Sealed → BatchList

@@ -3,6 +3,7 @@ pub use Rattle.disk_trait.specs.Disk
 pub use Rattle.edge_traits.specs.Faults
 pub mod Causes
 pub mod Choice
+pub mod Claims
 pub mod Found
 pub mod Fronts
 pub mod Kept

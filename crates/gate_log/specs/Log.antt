@@ -1,10 +1,10 @@
 -- The words for a log.
-use Rattle.std.specs.Prelude.{◌≡◌, ℕ, Option, None}
+use Rattle.std.specs.Prelude.{◌≡◌, ℕ, List, Option, None}
 use Rattle.disk_trait.specs.declared.area.Area.{Area}
 use Rattle.disk_trait.specs.Areas.{Areas, area_of}
 use Rattle.disk_trait.specs.Disk.{WhereTold}
 use Rattle.gate_log.specs.Sealed.{BatchList}
-use Rattle.gate_log.specs.Kept.{batches_before}
+use Rattle.gate_log.specs.Kept.{batches_before, IsBeforeOrAfter}
 use Rattle.gate_log.specs.declared.log.GateLog.{GateLog}
 
 -- its disk
@@ -31,9 +31,18 @@ failed_at log = log.seen
 abbrev pub HasBatches : {D : Type 0} {d : _} → (D → Option Areas) → GateLog D d → BatchList → Type 0
 HasBatches reads log batches = WhereTold (reads log.disk) (λ areas. batches_before log.gate (area_of log.area areas) ≡ batches)
 
+-- Where reads are told, the log's batches have P. Of a disk that tells nothing this claims nothing.
+abbrev pub BatchesHave : {D : Type 0} {d : _} → (D → Option Areas) → GateLog D d → (BatchList → Type 0) → Type 0
+BatchesHave reads log P = WhereTold (reads log.disk) (λ areas. P (batches_before log.gate (area_of log.area areas)))
+
 -- each image of the log's disk has P
 abbrev pub EachImage : {D : Type 0} {d : _} → (D → Areas → Type 0) → GateLog D d → (Areas → Type 0) → Type 0
 EachImage may_leave log P = (image : Areas) → may_leave log.disk image → P image
+
+-- Each image of the log's disk has the log's batches, or these and one more, of some payload.
+abbrev pub IsInDoubt : {D : Type 0} {d : _} → (D → Option Areas) → (D → Areas → Type 0) → GateLog D d → Type 0
+IsInDoubt reads may_leave log =
+    ∥ ((payload : List ℕ) × ((batches : BatchList) → HasBatches reads log batches → EachImage may_leave log (IsBeforeOrAfter batches (last_gate log, payload)))) ∥₁
 
 -- a log that was just made, in this area, with this generation and these batches
 pub record IsNew {D : Type 0} {d : _} (reads : D → Option Areas) (area : Area) (generation : ℕ) (batches : BatchList) (log : GateLog D d) : Type 0 where

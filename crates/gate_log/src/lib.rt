@@ -20,4 +20,6 @@ pub use frame::Frame;
 pub use log::GateLog;
 
 #[cfg(test)]
+mod journal;
+#[cfg(test)]
 mod tests;

@@ -40,7 +40,7 @@ impl<D: Disk> GateLog<D> {
     ghost use Rattle.gate_log.specs.Found.{Damaged, Live, Nothing, found_of, batches_in, HasRoom, SameBatches, SameBatchesOr};
     ghost use Rattle.gate_log.specs.Kept.{IsBeforeOrAfter};
     ghost use Rattle.gate_log.specs.Steps.{KeepsFront};
-    ghost use Rattle.gate_log.specs.Log.{HasBatches, IsNew, EachImage, disk_of, live_area, generation_of, last_gate, failed_at};
+    ghost use Rattle.gate_log.specs.Log.{HasBatches, IsNew, IsInDoubt, EachImage, disk_of, live_area, generation_of, last_gate, failed_at};
 
     /// Makes a log in an area, where both are blank. A stop at any moment of it leaves no batch. `NoMemory` and
     /// `Damaged` never come.
@@ -112,6 +112,7 @@ impl<D: Disk> GateLog<D> {
         // What is found of what reads give, and a log that has it.
         ensures found { IfOk result (λ opened. WhereTold (D.reads disk) (λ areas.
             FoundAs (live_area opened.0) (generation_of opened.0) opened.1 (found_of areas))) }
+        ensures same_batches { IfOk result (λ opened. WhereTold (D.reads disk) (λ areas. batches_in areas ≡ Ok opened.1)) }
         ensures has { IfOk result (λ opened. HasBatches D.reads opened.0 opened.1) }
         ensures sealed { IfOk result (λ opened.
             EachImage D.may_leave opened.0 (λ image. batches_in image ≡ Ok opened.1)) }
@@ -196,9 +197,12 @@ impl<D: Disk> GateLog<D> {
 
         ensures failed { OnErr result ((batches : BatchList) → HasBatches D.reads self.old batches
             → HasBatches D.reads self.new batches) }
+        ensures in_doubt { IsErrOf result AppendError.DiskFault → (batches : BatchList) → HasBatches D.reads self.new batches
+            → EachImage D.may_leave self.new (IsBeforeOrAfter batches (last_gate self.new, frame.now)) }
         ensures same_area { live_area self.new ≡ live_area self.old }
         ensures same_generation { generation_of self.new ≡ generation_of self.old }
         ensures next_gate { OnOk result (last_gate self.new ≡ last_gate self.old + 9 + length frame.now) }
+        ensures same_gate { OnErr result (last_gate self.new ≡ last_gate self.old) }
 
         ensures ok { IsOk result → (failed_at self.old ≡ None) × (failed_at self.new ≡ None) }
         ensures disk_fault { IsErrOf result AppendError.DiskFault → (failed_at self.old ≡ None)
@@ -226,6 +230,19 @@ impl<D: Disk> GateLog<D> {
         }
     }
 
+    /// The count of faults that was seen when an append failed; `None` until then. It costs nothing.
+    pub fn failed(&self) -> Option<u64>
+        ensures value { result ≡ failed_at self.now }
+        ensures counted { (seen : ℕ) → failed_at self.now ≡ Some seen → seen ≤ D.faults (disk_of self.now) }
+
+        // A stop now leaves the log's batches or, after an append that failed, these or these and the one that failed.
+        ensures sealed { failed_at self.now ≡ None → (batches : BatchList) → HasBatches D.reads self.now batches
+            → EachImage D.may_leave self.now (λ image. batches_in image ≡ Ok batches) }
+        ensures in_doubt { (seen : ℕ) → failed_at self.now ≡ Some seen → IsInDoubt D.reads D.may_leave self.now }
+    {
+        self.seen
+    }
+
     /// The area that it writes to.
     pub fn area(&self) -> Area
         ensures { result ≡ live_area self.now }
@@ -233,12 +250,16 @@ impl<D: Disk> GateLog<D> {
         self.area
     }
 
-    /// The disk. Where no append failed, a stop leaves what reads give, and the log is what is found of that.
+    /// The disk. Where no append failed, a stop leaves what reads give, and the log is what is found of that. After an
+    /// append that failed a stop leaves the log's batches, or these and one more.
     pub fn into_disk(self) -> D
         ensures disk { result ≡ disk_of self }
         ensures settled { failed_at self ≡ None → IsSettled (D.reads result) (D.may_leave result) }
         ensures found { failed_at self ≡ None → (batches : BatchList) → HasBatches D.reads self batches
             → WhereTold (D.reads result) (λ areas. found_of areas ≡ Live (live_area self) (generation_of self) batches) }
+        ensures sealed { failed_at self ≡ None → (batches : BatchList) → HasBatches D.reads self batches
+            → EachImage D.may_leave self (λ image. batches_in image ≡ Ok batches) }
+        ensures in_doubt { (seen : ℕ) → failed_at self ≡ Some seen → IsInDoubt D.reads D.may_leave self }
     {
         self.disk
     }

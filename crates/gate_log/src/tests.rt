@@ -719,6 +719,7 @@ fn the_batches_of_a_log_are_read_again(rt: HostRuntime) -> Result<(), Fail> {
     assert!(rt; are(&batches, &[(17, &[5])]));
     Ok(())
 }
+
 // A log in the other area, of the next generation, with one batch.
 fn switched(alloc: Global, disk: MemoryDisk, first: &Frame) -> Option<Made> {
     let Ok(opened) = GateLog::load(alloc, disk) else {
@@ -740,32 +741,43 @@ fn switched(alloc: Global, disk: MemoryDisk, first: &Frame) -> Option<Made> {
 fn a_log_with_a_first_batch_takes_over_or_does_not(rt: HostRuntime) -> Result<(), Fail> {
     let alloc = rt.alloc();
     let first = Frame::new(alloc, ONE)?;
-    let dry = disk_with(alloc, 1000, None, None, Image::Kept)?;
-    let mut dry = dry;
+    let mut dry = disk_with(alloc, 1000, None, None, Image::Kept)?;
     assert!(rt; written(&mut dry, Area::Zero, &WORKED));
     let (log, _) = loaded(alloc, dry).ok().ok_or("a log")?;
     let before = disk_in(log).calls_made();
     for image in &IMAGES {
+        // A length, 00 at 0, the rest in two writes, a5 at 0, and a sync after each. Stopped after k calls, or with the
+        // next one failing, each change that was not synced is in doubt.
         for k in 0..=8u64 {
-            let mut disk = disk_with(alloc, 1000, None, before.checked_add(k), *image)?;
-            assert!(rt; written(&mut disk, Area::Zero, &WORKED));
-            let made = switched(alloc, disk, &first).ok_or("a log before")?;
-            assert_eq!(rt; made.is_ok(), k == 8, "{image:?} after {k}");
-            let mut disk = match made {
-                Ok(log) => disk_in(log),
-                Err((_, disk)) => disk,
-            };
-            assert!(rt; restarted(&mut disk));
-            let (log, found) = loaded(alloc, disk).ok().ok_or("a log")?;
-            let is_new = k == 8 || (k >= 6 && matches!(image, Image::Kept | Image::Byte(0xa5)));
-            assert_eq!(rt;
-                log.generation(),
-                if is_new { 2 } else { 1 },
-                "{image:?} after {k}"
-            );
-            assert_eq!(rt; found.len(), if is_new { 1 } else { 2 });
-            if is_new {
-                assert!(rt; are(&found, &[(17, ONE)]));
+            for stops in [true, false] {
+                let (fails, stop) = match (stops, k) {
+                    (true, _) => (None, before.checked_add(k)),
+                    (false, 8) => (None, None),
+                    (false, _) => (before.checked_add(k.wrapping_add(1)), None),
+                };
+                let mut disk = disk_with(alloc, 1000, fails, stop, *image)?;
+                assert!(rt; written(&mut disk, Area::Zero, &WORKED));
+                let made = switched(alloc, disk, &first).ok_or("a log before")?;
+                assert_eq!(rt; made.is_ok(), k == 8, "{image:?} after {k}");
+                let mut disk = match made {
+                    Ok(log) => disk_in(log),
+                    Err((error, disk)) => {
+                        assert!(rt; error == LogError::DiskFault, "{image:?} after {k}");
+                        disk
+                    }
+                };
+                assert!(rt; restarted(&mut disk));
+                let (log, found) = loaded(alloc, disk).ok().ok_or("a log")?;
+                let is_new = k == 8 || (k >= 6 && matches!(image, Image::Kept | Image::Byte(0xa5)));
+                assert_eq!(rt;
+                    log.generation(),
+                    if is_new { 2 } else { 1 },
+                    "{image:?} after {k}"
+                );
+                assert_eq!(rt; found.len(), if is_new { 1 } else { 2 });
+                if is_new {
+                    assert!(rt; are(&found, &[(17, ONE)]));
+                }
             }
         }
     }

@@ -2,7 +2,7 @@ use Rattle.std.proofs.Common.{◌≡◌, ℕ, ◌+◌, [], ◌∷◌, ◌++◌, 
 use Rattle.disk_trait.specs.Areas.{area_of}
 use Rattle.disk_trait.specs.Disk.{WhereTold}
 use Rattle.gate_log.specs.Kept.{IsKept, batches_before}
-use Rattle.gate_log.proofs.Appends.{images_stand, moments, fronts, still_before, keeps_faulted, sealed_has, keeps_sealed}
+use Rattle.gate_log.proofs.Appends.{images_stand, moments, fronts, still_before, doubts, keeps_faulted, sealed_has, keeps_sealed}
 use Rattle.gate_log.proofs.log.GateLog.append.Goals as goal
 
 pub invariant_of-self : goal.invariant_of-self
@@ -88,3 +88,12 @@ returns-in-Err-clause-failed g c = λ batches has areas told.
     let kept = subst (λ (seen : Option ℕ). IsKept d.reads d.may_leave d.length_of d.faults s.disk s.area s.generation s.gate seen) c.in-None.is s.kept in
     let bytes = c.as_slice-bytes.ensures in
     still_before d.reads d.may_leave d.length_of d.faults s.disk s.area s.generation s.gate kept c.args.frame.now c.as_slice-bytes.result.now bytes.bytes bytes.size c.seal.new.disk d.moment d.left_since c.seal.ensures.any_moment (g.met.D.Disk.counts_now c.seal.new.disk) (g.met.D.Disk.reads_are_an_image c.seal.new.disk) areas told batches has
+
+pub returns-in-Err-clause-in_doubt : goal.returns-in-Err-clause-in_doubt
+returns-in-Err-clause-in_doubt g c = λ is batches has image left.
+    let s = c.args.self.now in
+    let d = g.D.Disk in
+    let kept = subst (λ (seen : Option ℕ). IsKept d.reads d.may_leave d.length_of d.faults s.disk s.area s.generation s.gate seen) c.in-None.is s.kept in
+    let bytes = c.as_slice-bytes.ensures in
+    doubts d.reads d.may_leave d.length_of d.faults s.disk s.area s.generation s.gate kept c.args.frame.now c.as_slice-bytes.result.now bytes.bytes bytes.size c.seal.new.disk d.moment d.left_since c.seal.ensures.any_moment (g.met.D.Disk.counts_now c.seal.new.disk) (g.met.D.Disk.reads_are_an_image c.seal.new.disk)
+    batches has (g.met.D.Disk.images_are_told c.seal.new.disk) image left
