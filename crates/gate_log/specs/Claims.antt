@@ -3,12 +3,12 @@
 use Rattle.std.specs.Prelude.{◌≡◌, ◌⊎◌, ℕ, List, [], ◌∷◌, ◌++◌, length, Option, Some, None, Result, Ok, IsOkAnd, refl}
 use Rattle.std.proofs.Common.{inl, inr, ⊎_elim, arith, sym, ◌∙◌, ap, subst}
 use Rattle.disk_trait.specs.declared.area.Area.{Area}
-use Rattle.disk_trait.specs.Areas.{Areas, area_of}
+use Rattle.disk_trait.specs.Areas.{Areas}
 use Rattle.disk_trait.specs.Disk.{WhereTold, LeavesOnly}
 use Rattle.disk_trait.specs.Moments.{widens}
-use Rattle.gate_log.specs.Sealed.{BatchList}
-use Rattle.gate_log.specs.Found.{batches_in}
-use Rattle.gate_log.specs.Kept.{IsBeforeOrAfter, batches_before}
+use Rattle.gate_areas.specs.Sealed.{BatchList}
+use Rattle.gate_areas.specs.Found.{batches_in, IsBeforeOrAfter}
+use Rattle.gate_areas.specs.LiveBatches.{live_batches}
 use Rattle.gate_log.specs.Log.{HasBatches, BatchesHave, EachImage, disk_of}
 use Rattle.gate_log.specs.declared.log.GateLog.{GateLog}
 
@@ -27,7 +27,7 @@ pub have_after : {D : Type 0} {d : _} (reads : D → Option Areas) (old new : Ga
     → ((batches : BatchList) → HasBatches reads old batches → HasBatches reads new (batches ++ batch ∷ [])) → ((batches : BatchList) → P batches → Q (batches ++ batch ∷ []))
     → BatchesHave reads new Q
 have_after reads old new batch P Q have appended step = λ areas told.
-    let from = of_told (reads old.disk) (λ given. batches_before old.gate (area_of old.area given)) (batches_before new.gate (area_of new.area areas)) (λ bs. bs ++ batch ∷ [])
+    let from = of_told (reads old.disk) (λ given. live_batches old.live given) (live_batches new.live areas) (λ bs. bs ++ batch ∷ [])
     (λ batches has. appended batches has areas told) (λ same. absurd (omega (arith, ap length same))) in
     subst Q (sym from.2) (step _ (have from.0 from.1))
 
@@ -35,7 +35,7 @@ have_after reads old new batch P Q have appended step = λ areas told.
 pub have_still : {D : Type 0} {d : _} (reads : D → Option Areas) (old new : GateLog D d) (P : BatchList → Type 0) → BatchesHave reads old P
     → ((batches : BatchList) → HasBatches reads old batches → HasBatches reads new batches) → BatchesHave reads new P
 have_still reads old new P have same = λ areas told.
-    let from = of_told (reads old.disk) (λ given. batches_before old.gate (area_of old.area given)) (batches_before new.gate (area_of new.area areas)) (λ bs. bs)
+    let from = of_told (reads old.disk) (λ given. live_batches old.live given) (live_batches new.live areas) (λ bs. bs)
     (λ batches has. same batches has areas told) (λ is. absurd (omega (arith, ap length is))) in
     subst P (sym from.2) (have from.0 from.1)
 
@@ -52,7 +52,7 @@ module _ {D : Type 0} (reads : D → Option Areas) (may_leave : D → Areas → 
       → ((batches : BatchList) → HasBatches reads log batches → EachImage may_leave log (λ image. batches_in image ≡ Ok batches)) → EachImage may_leave log (λ image. IsOkAnd (batches_in image) P)
   images_have log P are_told have sealed = λ image left.
       let told = are_told image left in
-      stands P _ image (sealed _ (λ areas is. let same : areas ≡ told.0 = cc (is, told.1) in ap (λ (a : Areas). batches_before log.gate (area_of log.area a)) same) image left) (have told.0 told.1)
+      stands P _ image (sealed _ (λ areas is. let same : areas ≡ told.0 = cc (is, told.1) in ap (λ (a : Areas). live_batches log.live a) same) image left) (have told.0 told.1)
 
   -- each image, after an append that failed
   pub images_in_doubt : {d : _} (log : GateLog D d) (batch : ℕ × List ℕ) (P Q : BatchList → Type 0) → ((image : Areas) → may_leave (disk_of log) image → (areas : Areas) × (reads (disk_of log) ≡ Some areas))
@@ -61,7 +61,7 @@ module _ {D : Type 0} (reads : D → Option Areas) (may_leave : D → Areas → 
   images_in_doubt log batch P Q are_told have step doubt = λ image left.
       let told = are_told image left in
       let p = have told.0 told.1 in
-      stands_or P Q batch _ image p (step _ p) (doubt _ (λ areas is. let same : areas ≡ told.0 = cc (is, told.1) in ap (λ (a : Areas). batches_before log.gate (area_of log.area a)) same) image left)
+      stands_or P Q batch _ image p (step _ p) (doubt _ (λ areas is. let same : areas ≡ told.0 = cc (is, told.1) in ap (λ (a : Areas). live_batches log.live a) same) image left)
 
 -- no image has both no batch or one, and two or three
 never_both : (batch : ℕ × List ℕ) (image : Areas) → IsBeforeOrAfter [] batch image → IsBeforeOrAfter ((0, []) ∷ (0, []) ∷ []) batch image → ⊥
@@ -88,5 +88,5 @@ moments_have reads moment left_since log old new batch P Q have step run = by_re
         }
     by_reads (Some given) told =
         let p = have given told in
-        widens moment left_since old new _ _ (run _ (λ areas is. let same : areas ≡ given = cc (is, told) in ap (λ (a : Areas). batches_before log.gate (area_of log.area a)) same))
+        widens moment left_since old new _ _ (run _ (λ areas is. let same : areas ≡ given = cc (is, told) in ap (λ (a : Areas). live_batches log.live a) same))
         (λ image either. stands_or P Q batch _ image p (step _ p) either)

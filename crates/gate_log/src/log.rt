@@ -2,29 +2,18 @@
 ghost use Rattle.std.proofs.Props.{props};
 ghost use Rattle.gate_log.specs.Kept.{IsKept};
 
-use crate::batches::Batches;
-use crate::collect::collect;
 use crate::error::{AppendError, LogError};
-use crate::frame::Frame;
-use crate::make::make_area;
 use crate::open::{Opened, open_disk};
-use crate::seal::seal;
-use disk_trait::{Area, Disk};
+use gate_areas::{Area, Batches, Disk, Frame, LiveArea, collect, make_area, make_area_with, seal};
 use std::alloc::Global;
-
-const CLOSED: u8 = 0;
-
-const OPEN: u8 = 0xa5;
 
 /// A log of batches in one area of a disk.
 #[derive(Drop)]
 pub struct GateLog<D: Disk> {
     disk: D,
-    area: Area,
-    generation: u64,
-    gate: u64,
+    live: LiveArea,
     seen: Option<u64>,
-    ghost kept: { IsKept D.reads D.may_leave D.length_of D.faults disk area generation gate seen } by { Prim.hlevel props },
+    ghost kept: { IsKept D.reads D.may_leave D.length_of D.faults disk live seen } by { Prim.hlevel props },
 }
 
 impl<D: Disk> GateLog<D> {
@@ -32,14 +21,13 @@ impl<D: Disk> GateLog<D> {
     ghost use Rattle.edge_traits.specs.Faults.{Rose};
     ghost use Rattle.disk_trait.specs.Areas.{Areas, area_of};
     ghost use Rattle.disk_trait.specs.Disk.{WhereTold, NoNewImage, OnArea, IsSettled, ComesFrom, LeavesOnly};
-    ghost use Rattle.gate_log.specs.Sealed.{BatchList};
+    ghost use Rattle.gate_areas.specs.Sealed.{BatchList};
     ghost use Rattle.disk_trait.specs.declared.area.Area.{Area};
     ghost use Rattle.gate_log.specs.Causes.{HasReadCause};
     ghost use Rattle.gate_log.specs.Opened.{FoundAs, IsOldOr};
-    ghost use Rattle.gate_log.specs.Untouched.{Untouched};
-    ghost use Rattle.gate_log.specs.Found.{Damaged, Live, Nothing, found_of, batches_in, HasRoom, SameBatches, SameBatchesOr};
-    ghost use Rattle.gate_log.specs.Kept.{IsBeforeOrAfter};
-    ghost use Rattle.gate_log.specs.Steps.{KeepsFront};
+    ghost use Rattle.gate_areas.specs.Untouched.{Untouched};
+    ghost use Rattle.gate_areas.specs.Found.{Damaged, Live, Nothing, found_of, batches_in, HasRoom, SameBatches, SameBatchesOr, IsBeforeOrAfter};
+    ghost use Rattle.gate_areas.specs.Steps.{KeepsFront};
     ghost use Rattle.gate_log.specs.Log.{HasBatches, IsNew, IsInDoubt, EachImage, disk_of, live_area, generation_of, last_gate, failed_at};
 
     /// Makes a log in an area, where both are blank. A stop at any moment of it leaves no batch. `NoMemory` and
@@ -58,12 +46,10 @@ impl<D: Disk> GateLog<D> {
         ensures count { MatchResult result (λ log. D.faults disk ≤ D.faults (disk_of log)) (λ err. D.faults disk ≤ D.faults err.1) }
     {
         let mut disk = disk;
-        match make_area(&mut disk, area, generation, CLOSED, &[]) {
-            Ok(()) => Ok(GateLog {
+        match make_area(&mut disk, area, generation) {
+            Ok(live) => Ok(GateLog {
                 disk,
-                area,
-                generation,
-                gate: 17,
+                live,
                 seen: None,
             }),
             Err(_) => Err((LogError::DiskFault, disk)),
@@ -91,13 +77,10 @@ impl<D: Disk> GateLog<D> {
         ensures count { MatchResult result (λ log. D.faults disk ≤ D.faults (disk_of log)) (λ err. D.faults disk ≤ D.faults err.1) }
     {
         let mut disk = disk;
-        let frame = first.as_slice();
-        match make_area(&mut disk, area, generation, OPEN, frame) {
-            Ok(()) => Ok(GateLog {
+        match make_area_with(&mut disk, area, generation, first) {
+            Ok(live) => Ok(GateLog {
                 disk,
-                area,
-                generation,
-                gate: 17 + frame.len() as u64,
+                live,
                 seen: None,
             }),
             Err(_) => Err((LogError::DiskFault, disk)),
@@ -138,17 +121,10 @@ impl<D: Disk> GateLog<D> {
         let mut disk = disk;
         match open_disk(alloc, &mut disk) {
             Ok(opened) => {
-                let Opened {
-                    area,
-                    generation,
-                    gate,
-                    batches,
-                } = opened;
+                let Opened { live, batches } = opened;
                 let log = GateLog {
                     disk,
-                    area,
-                    generation,
-                    gate,
+                    live,
                     seen: None,
                 };
                 Ok((log, batches))
@@ -168,14 +144,14 @@ impl<D: Disk> GateLog<D> {
         ensures same_fault { failed_at self.new ≡ failed_at self.old }
         ensures cause { HasReadCause (D.faults (disk_of self.old)) (D.faults (disk_of self.new)) result }
     {
-        collect(alloc, &mut self.disk, self.area, self.gate)
+        Ok(collect(alloc, &mut self.disk, self.live)?)
     }
 
     /// The generation of the log's area.
     pub fn generation(&self) -> u64
         ensures { result ≡ generation_of self.now }
     {
-        self.generation
+        self.live.generation
     }
 
     /// Appends a batch, in four device calls. At `Ok` it is sealed: from then on a stop at any moment leaves it. After
@@ -214,19 +190,16 @@ impl<D: Disk> GateLog<D> {
     {
         match self.seen {
             Some(seen) => Err(AppendError::Faulted { seen }),
-            None => {
-                let bytes = frame.as_slice();
-                match seal(&mut self.disk, self.area, self.gate, bytes) {
-                    Ok(()) => {
-                        self.gate += bytes.len() as u64;
-                        Ok(())
-                    }
-                    Err(_) => {
-                        self.seen = Some(self.disk.fault_count());
-                        Err(AppendError::DiskFault)
-                    }
+            None => match seal(&mut self.disk, self.live, frame) {
+                Ok(next) => {
+                    self.live = next;
+                    Ok(())
                 }
-            }
+                Err(_) => {
+                    self.seen = Some(self.disk.fault_count());
+                    Err(AppendError::DiskFault)
+                }
+            },
         }
     }
 
@@ -247,7 +220,7 @@ impl<D: Disk> GateLog<D> {
     pub fn area(&self) -> Area
         ensures { result ≡ live_area self.now }
     {
-        self.area
+        self.live.area
     }
 
     /// The disk. Where no append failed, a stop leaves what reads give, and the log is what is found of that. After an
