@@ -78,6 +78,7 @@ module _ (area : Area) (generation gate : ℕ) (given : Areas) (live : IsLive ar
 
   pub repaired : (after : Areas) → OnArea area (Repairs gate) given after → AtRest area generation gate after × (batches_before gate (area_of area after) ≡ batches_before gate (area_of area given))
   repaired after step =
-      let long : length (take gate (area_of area given)) ≡ gate = length-take-le gate (area_of area given) (omega (arith, live.within)) in
-      (at_rest area generation gate after (take gate (area_of area given)) _ step.here long live.front (alone_still after step.elsewhere),
-      before area generation gate after (take gate (area_of area given)) _ step.here long live.front (alone_still after step.elsewhere))
+      let long : length (take gate (area_of area given)) ≡ gate = length-take-le gate (area_of area given) (omega (arith, live.within)) in (
+        at_rest area generation gate after (take gate (area_of area given)) _ step.here long live.front (alone_still after step.elsewhere),
+        before area generation gate after (take gate (area_of area given)) _ step.here long live.front (alone_still after step.elsewhere),
+      )

@@ -1,5 +1,5 @@
 // The payloads before a gate.
-ghost use Rattle.std.specs.Prelude.{◌≡◌, ℕ, ◌+◌, ◌-◌, ◌^◌, ◌≤◌, [], ◌∷◌, ◌++◌, length, take, drop, IfOk, IsErrOf};
+ghost use Rattle.std.specs.Prelude.{◌≡◌, ℕ, ◌+◌, ◌-◌, ◌≤◌, length, take, drop, IfOk, IsErrOf};
 ghost use Rattle.edge_traits.specs.Faults.{Rose};
 ghost use Rattle.disk_trait.specs.Areas.{area_of};
 ghost use Rattle.disk_trait.specs.Disk.{WhereTold};
@@ -51,11 +51,7 @@ impl From<AllocError> for ReadError {
 }
 
 /// Reads the batches of the live area, with their payloads.
-pub fn collect<D: Disk>(
-    alloc: Global,
-    disk: &mut D,
-    live: LiveArea,
-) -> Result<Batches, ReadError>
+pub fn collect<D: Disk>(alloc: Global, disk: &mut D, live: LiveArea) -> Result<Batches, ReadError>
     requires { 17 ≤ live.gate }
 
     ensures collected { IfOk result (λ found. WhereTold (D.reads disk.old) (λ areas.

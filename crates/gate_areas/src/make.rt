@@ -1,8 +1,7 @@
 // A new area: it is blank until its head gate is opened by one byte, with all of it on the disk.
 ghost use Rattle.std.specs.Prelude.{◌≡◌, ◌+◌, ◌-◌, ◌^◌, ◌<◌, ◌≤◌, ◌++◌, [], ◌∷◌, length, IfOk, OnOk};
-ghost use Rattle.std.specs.Int.{w64, to_be_bytes};
+ghost use Rattle.std.specs.Int.{to_be_bytes};
 ghost use Rattle.edge_traits.specs.Faults.{HasFaultCause};
-ghost use Rattle.disk_trait.specs.Areas.{area_of, other_area};
 ghost use Rattle.disk_trait.specs.Disk.{WhereTold, OnArea, Leads, IsSettled, ComesFrom, LeavesOnly};
 ghost use Rattle.gate_areas.specs.Sealed.{text_of};
 ghost use Rattle.gate_areas.specs.Found.{found_of, HasRoom, SameBatchesOr};

@@ -1,7 +1,6 @@
 // The end of an area: what stands behind a gate that isn't open doesn't count.
-ghost use Rattle.std.specs.Prelude.{◌≡◌, ◌+◌, ◌-◌, ◌^◌, ◌≤◌, drop, false, OnOk};
+ghost use Rattle.std.specs.Prelude.{◌≡◌, ◌+◌, ◌-◌, ◌^◌, ◌≤◌, OnOk};
 ghost use Rattle.edge_traits.specs.Faults.{HasFaultCause};
-ghost use Rattle.disk_trait.specs.Areas.{area_of};
 ghost use Rattle.disk_trait.specs.Disk.{WhereTold, Shortened, Cut, OnArea, Leads, IsSettled, ComesFrom, LeavesOnly};
 ghost use Rattle.gate_areas.specs.Found.{SameBatches};
 ghost use Rattle.gate_areas.specs.LiveBatches.{Lives, ComesToRest};

@@ -1,6 +1,5 @@
 // That calls succeed with ample memory.
 use super::*;
-use disk_trait::{DiskPlan, Image, MemoryDisk};
 use std::test::Fail;
 
 #[test]
@@ -14,6 +13,8 @@ fn batches_are_added_one_by_one(rt: HostRuntime) -> Result<(), Fail> {
     let mut batches = Batches::new(alloc);
     batches.push(Batch { place: 17, payload })?;
     assert_eq!(rt; batches.len(), 1);
-    assert!(rt; matches!(batches.at(0), Some(batch) if batch.payload.as_slice() == b"\x05".as_slice()));
+    assert!(rt;
+        matches!(batches.at(0), Some(batch) if batch.payload.as_slice() == b"\x05".as_slice())
+    );
     Ok(())
 }

@@ -22,7 +22,7 @@ pub struct Journal<D: Disk> {
 }
 
 impl<D: Disk> Journal<D> {
-    ghost use Rattle.std.specs.Prelude.{◌≡◌, ◌⊎◌, ◌+◌, ◌-◌, ◌^◌, ◌<◌, length, IsOkAnd, None, IsErrOf, IfOk, OnOk, OnErr};
+    ghost use Rattle.std.specs.Prelude.{◌≡◌, ◌⊎◌, ◌+◌, ◌-◌, ◌^◌, ◌<◌, length, IsOkAnd, None, IfOk, OnOk, OnErr};
     ghost use Rattle.disk_trait.specs.Areas.{Areas};
     ghost use Rattle.disk_trait.specs.Disk.{WhereTold, LeavesOnly};
     ghost use Rattle.gate_log.specs.Found.{batches_in};

@@ -19,7 +19,6 @@ pub struct GateLog<D: Disk> {
 impl<D: Disk> GateLog<D> {
     ghost use Rattle.std.specs.Prelude.{◌≡◌, ◌⊎◌, IfOk, IfErr, MatchResult, ◌↔◌, ◌≤◌, ◌+◌, ◌++◌, ◌∷◌, [], ℕ, Some, None, Ok, length, IsOk, OnOk, OnErr, IsErrOf};
     ghost use Rattle.edge_traits.specs.Faults.{Rose};
-    ghost use Rattle.disk_trait.specs.Areas.{Areas, area_of};
     ghost use Rattle.disk_trait.specs.Disk.{WhereTold, NoNewImage, OnArea, IsSettled, ComesFrom, LeavesOnly};
     ghost use Rattle.gate_areas.specs.Sealed.{BatchList};
     ghost use Rattle.disk_trait.specs.declared.area.Area.{Area};

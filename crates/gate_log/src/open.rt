@@ -1,5 +1,5 @@
 // What is found on a disk, and a log over it.
-ghost use Rattle.std.specs.Prelude.{◌≡◌, ◌⊎◌, ℕ, ◌+◌, ◌-◌, ◌^◌, ◌≤◌, None, IfOk, IfErr, OnErr, IsErrOf};
+ghost use Rattle.std.specs.Prelude.{◌≡◌, ◌⊎◌, ℕ, ◌-◌, ◌≤◌, IfOk, IfErr, OnErr, IsErrOf};
 ghost use Rattle.edge_traits.specs.Faults.{Rose};
 ghost use Rattle.disk_trait.specs.declared.area.Area.{Area};
 ghost use Rattle.disk_trait.specs.Disk.{WhereTold, NoNewImage, IsSettled, ComesFrom, LeavesOnly};
