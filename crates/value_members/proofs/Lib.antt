@@ -1,0 +1,3 @@
+mod Indexes
+mod NewMembers
+mod Ties
