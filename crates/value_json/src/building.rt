@@ -9,6 +9,7 @@ ghost use Rattle.value_json.specs.Reading.{set_of, map_of, with_name, with_names
 use crate::JsonError;
 use clone_values::{Items, NoMemory, Pair, Pairs, Props, Value};
 use std::alloc::Global;
+use value_members::{MapBuilder, SetBuilder};
 
 /// The members of a Set.
 #[tactic(auto, using(crate::proofs::Lengths::put_once_longer))]
@@ -16,11 +17,11 @@ pub(crate) fn set_from(alloc: Global, items: Items) -> Result<Items, NoMemory>
     requires { IsWithinLimit items }
     ensures { IfOk result (λ once. once ≡ set_of items) }
 {
-    let mut once = Items::new(alloc);
+    let mut once = SetBuilder::new(alloc);
     for value in items.into_vec() {
-        once.put_once(value)?;
+        once.put(value)?;
     }
-    Ok(once)
+    Ok(once.finish())
 }
 
 /// The entries of a Map.
@@ -29,11 +30,11 @@ pub(crate) fn map_from(alloc: Global, pairs: Vec<Pair>) -> Result<Pairs, NoMemor
     requires { IsWithinLimit pairs.items }
     ensures { IfOk result (λ once. once ≡ map_of (map pair_of pairs.items)) }
 {
-    let mut once = Pairs::new(alloc);
+    let mut once = MapBuilder::new(alloc);
     for pair in pairs {
         once.put(pair.key, pair.value)?;
     }
-    Ok(once)
+    Ok(once.finish())
 }
 
 /// The named properties of an Array or an Object.

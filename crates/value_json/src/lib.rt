@@ -8,8 +8,10 @@ mod error;
 mod marks;
 mod parts;
 mod reading;
+mod writing;
 #[cfg(test)]
 mod tests;
 
 pub use error::JsonError;
 pub use reading::value_from_json;
+pub use writing::{key_to_json, value_to_json};
