@@ -17,12 +17,13 @@ use clone_values::{Items, Pair, Props, Text, Value};
 use serde_json::{Map, Value as Json};
 use std::alloc::Global;
 
-/// Reads a value from a document.
+/// Reads a value from a document. `Spelling` comes exactly where the document has no reading.
 ///
-/// `Spelling` comes exactly where the document has no reading.
+/// A list of more than 4,294,967,295 members has none, whatever stands in it.
 pub fn value_from_json(alloc: Global, j: &Json) -> Result<Value, JsonError>
     ensures found { IfOk result (λ v. tree_in (view j.now) ≡ Some (tree_of v)) }
-    ensures refused { IsErrOf result JsonError.Spelling → tree_in (view j.now) ≡ None }
+    ensures well_formed { IfOk result (λ v. IsValue (tree_of v)) }
+    ensures no_reading { IsErrOf result JsonError.Spelling → tree_in (view j.now) ≡ None }
 {
     read(alloc, j)
 }
