@@ -1,5 +1,5 @@
 -- What is built of well formed values keeps to the rules of their lists.
-use Rattle.std.proofs.Common.{◌≡◌, ℕ, zero, suc, ◌+◌, ◌≤◌, Bool, true, false, not, ◌&&◌, ◌||◌, cond, if◌then◌else◌, List, [], ◌∷◌, ◌++◌, length, map, slice_set, get_or, Option, Some, None, option_and_then, IfSome, refl, sym, ◌∙◌, ap, arith, true≢false, nat_le, le-leb, is_some}
+use Rattle.std.proofs.Common.{◌≡◌, ℕ, zero, suc, ◌+◌, ◌≤◌, Bool, true, false, not, ◌&&◌, ◌||◌, cond, if◌then◌else◌, List, [], ◌∷◌, ◌++◌, length, map, slice_set, get_or, Option, Some, None, option_and_then, IfSome, refl, sym, ◌∙◌, ap, arith, true≢false, is_some}
 use Rattle.std.specs.declared.cmp.Ordering.{Ordering}
 use Rattle.std.specs.declared.cmp.Ordering.TheVariants.{Less, Equal, Greater}
 use Rattle.std.specs.Ordering.{nat_cmp, match_ordering}
@@ -8,13 +8,13 @@ use Rattle.std.specs.Cmp.Lexicographic.{slice_cmp}
 use Rattle.std.specs.List.{fold, list_any, list_all, position_from}
 use Rattle.std.proofs.lemmas.List.Folds.{list_any-append}
 use Rattle.std.proofs.lemmas.List.{map-append, map-set, set-get_or}
-use Rattle.clone_values.specs.Tree.{Tree, undefined, null, boolean, int, text, date, bytes, array, object, map_object, set_object, function, trees_of, members_of, pairs_of, list_of_members}
+use Rattle.clone_values.specs.Tree.{Tree, text, trees_of, pairs_of}
 use Rattle.clone_values.specs.Names.{names_of, is_rising, set_member, get_member}
 use Rattle.clone_values.specs.Sameness.{is_primitive, same_tree, repeats, put_once, put_pair, set_at_place}
-use Rattle.clone_values.specs.WellFormed.{is_value, are_values, member_values, pair_values, are_once, is_within_limit, is_array_name}
+use Rattle.clone_values.specs.WellFormed.{is_value, are_values, pair_values, are_once, is_within_limit, is_array_name}
 use Rattle.clone_values.proofs.NamesLaws.{rising_set}
 use Rattle.clone_values.proofs.SamenessLaws.{same_tree_decides}
-use Rattle.value_json.specs.Reading.{given, set_of, map_of, properties_of, with_name, with_names}
+use Rattle.value_json.specs.Reading.{given, with_name, with_names}
 use Rattle.value_json.proofs.Lengths.{put_once_longer, put_pair_longer, set_member_longer}
 
 pub both_so : (a b : Bool) → a ≡ true → b ≡ true → (a && b) ≡ true
@@ -137,8 +137,10 @@ all_set p (m ∷ ms) n v h e = by (slice_cmp nat_cmp n m.0) (all_set p ms n v (s
   where
     here : p m ≡ true
     here = first_so (p m) (list_all p ms) h
+
     rest : list_all p ms ≡ true
     rest = second_so (p m) (list_all p ms) h
+
     by : (o : Ordering) → list_all p (set_member ms n v) ≡ true → list_all p (match_ordering o ((n, v) ∷ m ∷ ms) ((n, v) ∷ ms) (m ∷ set_member ms n v)) ≡ true
     by Less later = both_so (p (n, v)) _ e h
     by Equal later = both_so (p (n, v)) _ e rest
@@ -175,10 +177,12 @@ names_kept of_array (p ∷ ps) ms h k =
   where
     here : (is_value p.0 && is_value p.1) ≡ true
     here = first_so (is_value p.0 && is_value p.1) (pair_values (pairs_of ps)) h
+
     longer : (more : List (List ℕ × Tree)) (o : Option (List (List ℕ × Tree))) → IfSome o (λ new. AreGood of_array new × (length new ≤ length more + length ps)) → length more ≤ length ms + 1
         → IfSome o (λ new. AreGood of_array new × (length new ≤ length ms + length (p ∷ ps)))
     longer more None later one = tt
     longer more (Some new) later one = (later.0, omega (arith, later.1, one))
+
     by : (o : Option (List (List ℕ × Tree))) → IfSome o (λ more. AreGood of_array more × (length more ≤ length ms + 1))
         → ((more : List (List ℕ × Tree)) → AreGood of_array more → IfSome (with_names of_array more ps) (λ new. AreGood of_array new × (length new ≤ length more + length ps)))
         → IfSome (option_and_then (λ more. with_names of_array more ps) o) (λ more. AreGood of_array more × (length more ≤ length ms + length (p ∷ ps)))

@@ -1,13 +1,13 @@
 -- Each step of building adds at most one.
-use Rattle.std.proofs.Common.{◌≡◌, ℕ, ◌+◌, ◌≤◌, Bool, true, false, List, [], ◌∷◌, ◌++◌, length, if◌then◌else◌, Option, Some, None, refl, arith, length-append}
+use Rattle.std.proofs.Common.{◌≡◌, ℕ, ◌+◌, ◌≤◌, Bool, true, false, List, [], ◌∷◌, ◌++◌, length, if◌then◌else◌, Option, Some, None, arith, length-append}
 use Rattle.std.proofs.lemmas.List.{length-set}
 use Rattle.std.specs.declared.cmp.Ordering.{Ordering}
 use Rattle.std.specs.declared.cmp.Ordering.TheVariants.{Less, Equal, Greater}
 use Rattle.std.specs.Ordering.{nat_cmp, match_ordering}
 use Rattle.std.specs.Cmp.Lexicographic.{slice_cmp}
-use Rattle.std.specs.List.{list_any, position_from, slice_set}
+use Rattle.std.specs.List.{list_any, position_from}
 use Rattle.clone_values.specs.Tree.{Tree, undefined, null, boolean, int, text, date, bytes, array, object, map_object, set_object, function}
-use Rattle.clone_values.specs.Names.{set_member, get_member}
+use Rattle.clone_values.specs.Names.{set_member}
 use Rattle.clone_values.specs.Sameness.{repeats, put_once, put_pair, set_at_place}
 use Rattle.value_json.specs.Reading.{given, with_name}
 

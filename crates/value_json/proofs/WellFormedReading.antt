@@ -1,11 +1,10 @@
 -- What a document reads as is well formed.
-use Rattle.std.proofs.Common.{◌≡◌, ℕ, suc, ◌+◌, ◌≤◌, Bool, true, false, not, ◌&&◌, if◌then◌else◌, List, [], ◌∷◌, length, Option, Some, None, option_map, option_and_then, IfSome, Result, Ok, Err, IfOk, subst, map, ◌||◌, refl, sym, ◌∙◌, ap, arith, nat_le, le-leb}
+use Rattle.std.proofs.Common.{◌≡◌, ℕ, suc, ◌+◌, ◌≤◌, Bool, true, false, not, ◌&&◌, if◌then◌else◌, List, [], ◌∷◌, length, Option, Some, None, option_map, option_and_then, IfSome, Result, Ok, Err, IfOk, subst, map, ◌||◌, refl, ◌∙◌, ap, arith, nat_le, le-leb}
 use Rattle.std.proofs.lemmas.Bool.{leb-true}
 use Rattle.std.specs.Cmp.{first_so, second_so}
 use Rattle.std.specs.List.{list_all}
-use Rattle.std.proofs.lemmas.List.Folds.{list_all-map}
-use Rattle.clone_values.specs.Tree.{Tree, undefined, null, boolean, int, text, date, bytes, array, object, map_object, set_object, function, no_members, trees_of, members_of, pairs_of, list_of_trees, list_of_members, list_of_pairs}
-use Rattle.clone_values.specs.Names.{names_of, is_rising}
+use Rattle.clone_values.specs.Tree.{Tree, int, text, date, bytes, array, map_object, set_object, trees_of, members_of, pairs_of, list_of_members}
+use Rattle.clone_values.specs.Names.{names_of}
 use Rattle.clone_values.specs.WellFormed.{is_value, IsValue, are_values, member_values, pair_values, are_once, is_int, is_date, is_within_limit, is_array_name, are_properties}
 use Rattle.clone_values.proofs.Lists.{trees_again, members_again, pairs_again}
 use Rattle.clone_values.specs.View.{tree_of}
@@ -21,8 +20,8 @@ use Rattle.value_json.specs.declared.marks.Mark.{Mark}
 use Rattle.value_json.specs.declared.marks.Mark.TheVariants as mark
 use Rattle.value_json.specs.Gives.{Gives}
 use Rattle.value_json.specs.declared.error.JsonError.{JsonError}
-use Rattle.value_json.specs.Reading.{given, int_in, date_in, text_in, bytes_in, decoded, short_list, plain_array, plain_object, full_array, set_of, map_of, properties_of, with_names, named_in, tree_in, object_in, marked_in, list_in, pair_list_in, trees_in, pairs_in, pair_in, members_in}
-use Rattle.value_json.proofs.Kept.{both_so, IsSet, set_kept, IsMap, map_kept, is_good, AreGood, properties_kept, names_kept}
+use Rattle.value_json.specs.Reading.{given, int_in, date_in, decoded, short_list, plain_array, plain_object, full_array, set_of, map_of, properties_of, with_names, named_in, tree_in, object_in, marked_in, list_in, pair_list_in, trees_in, pairs_in, pair_in, members_in}
+use Rattle.value_json.proofs.Kept.{both_so, set_kept, map_kept, is_good, AreGood, properties_kept, names_kept}
 
 -- ---- through the steps of an Option
 if_given : {A : Type 0} (P : A → Type 0) (b : Bool) (a : A) → (b ≡ true → P a) → IfSome (given b a) P

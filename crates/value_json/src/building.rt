@@ -39,7 +39,11 @@ pub(crate) fn map_from(alloc: Global, pairs: Vec<Pair>) -> Result<Pairs, NoMemor
 
 /// The named properties of an Array or an Object.
 #[tactic(auto, using(crate::proofs::Lengths::with_name_longer))]
-pub(crate) fn named_from(alloc: Global, pairs: Vec<Pair>, of_array: bool) -> Result<Props, JsonError>
+pub(crate) fn named_from(
+    alloc: Global,
+    pairs: Vec<Pair>,
+    of_array: bool,
+) -> Result<Props, JsonError>
     requires { IsWithinLimit pairs.items }
     ensures { Gives (λ ms. ms) result (with_names of_array [] (map pair_of pairs.items)) }
 {

@@ -8,9 +8,9 @@ mod error;
 mod marks;
 mod parts;
 mod reading;
-mod writing;
 #[cfg(test)]
 mod tests;
+mod writing;
 
 pub use error::JsonError;
 pub use reading::value_from_json;

@@ -10,8 +10,8 @@ ghost use Rattle.value_json.specs.Gives.{Gives};
 ghost use Rattle.value_json.specs.Reading.{tree_in, object_in, marked_in, full_array, list_in, pair_list_in, trees_in, members_in, pair_in, pairs_in, short_list, properties_of, named_in};
 
 use crate::JsonError;
-use crate::marks::{Mark, any_marked, is_full_array, mark_of};
 use crate::building::{map_from, named_from, set_from};
+use crate::marks::{Mark, any_marked, is_full_array, mark_of};
 use crate::parts::{LIMIT, read_bytes, read_date, read_int, read_text};
 use clone_values::{Items, Pair, Props, Text, Value};
 use serde_json::{Map, Value as Json};

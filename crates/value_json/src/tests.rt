@@ -68,8 +68,14 @@ const READ: [(&str, &str); 34] = [
         "{\"$set\":[{\"$date\":1},{\"$date\":1}]}",
         "{\"$set\":[{\"$date\":1},{\"$date\":1}]}",
     ),
-    ("[{\"$set\":[{\"$map\":[[1,2]]}]}]", "[{\"$set\":[{\"$map\":[[1,2]]}]}]"),
-    ("{\"a\":{\"b\":[{\"$function\":null}]}}", "{\"a\":{\"b\":[{\"$function\":null}]}}"),
+    (
+        "[{\"$set\":[{\"$map\":[[1,2]]}]}]",
+        "[{\"$set\":[{\"$map\":[[1,2]]}]}]",
+    ),
+    (
+        "{\"a\":{\"b\":[{\"$function\":null}]}}",
+        "{\"a\":{\"b\":[{\"$function\":null}]}}",
+    ),
 ];
 
 /// Documents without a reading.
@@ -125,10 +131,7 @@ fn written_again(alloc: Global, text: &str) -> Result<String, Fail> {
 
 fn is_refused(alloc: Global, text: &str) -> Result<bool, Fail> {
     let document = Json::from_str(alloc, text)?;
-    Ok(matches!(
-        value_from_json(alloc, &document),
-        Err(JsonError::Spelling)
-    ))
+    Ok(matches!(value_from_json(alloc, &document), Err(JsonError::Spelling)))
 }
 
 #[test]

@@ -1,9 +1,7 @@
-use Rattle.std.proofs.Common.{◌≡◌, ◌+◌, [], ◌∷◌, map, drop, string_bytes, Some, true, refl, sym, ap, ◌∙◌, arith, rules, length}
+use Rattle.std.proofs.Common.{◌≡◌, ◌+◌, ◌∷◌, map, drop, string_bytes, Some, true, refl, sym, ap, ◌∙◌, arith, rules, length}
 use Rattle.std.proofs.lemmas.List.{drop_more}
 use Rattle.std.proofs.lemmas.Grind.{common_steps}
 use Rattle.serde_json.specs.View.{view}
-use Rattle.serde_json.specs.Data.{array}
-use Rattle.serde_json.specs.View.{items_view}
 use Rattle.serde_json.proofs.Views.{Entry, view-Array}
 use Rattle.clone_values.specs.Names.{set_member}
 use Rattle.clone_values.specs.View.{tree_of}
@@ -98,4 +96,3 @@ read_object-returns t c =
     let names : is_full_array (string_bytes m.0) (string_bytes o.0) ≡ true = search rules in
     let full = two_members _ _ _ m o (sym all ∙ c.in-Some.ensures.steps) c.in-Some-next.ensures.steps c.in-None.ensures.steps.0 names in
     full ∙ rw (c.in_ok-items.ensures, c.in_ok-pairs.ensures.read, c.in_ok-named_from.ensures, c.items.view_is) refl
-
