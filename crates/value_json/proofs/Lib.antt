@@ -1,0 +1,4 @@
+pub mod Lengths
+pub mod Documents
+pub mod Kept
+pub mod WellFormedReading
