@@ -8,3 +8,4 @@ pub mod Sameness
 pub mod Names
 pub mod WellFormed
 pub mod Characters
+pub mod KeyValues

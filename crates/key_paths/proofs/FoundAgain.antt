@@ -16,7 +16,7 @@ use Rattle.clone_values.specs.Names.{get_member, set_member}
 use Rattle.clone_values.specs.declared.path_types.PathSpec.TheVariants.{One}
 use Rattle.path_grammar.specs.KeyPath.{parts_of}
 use Rattle.path_grammar.proofs.PathParts.{some_part}
-use Rattle.key_paths.specs.Conversion.{value_of_key}
+use Rattle.clone_values.specs.KeyValues.{value_of_key}
 use Rattle.key_paths.specs.Evaluation.{evaluated, walked, step_of, takes_length, length_of, property_of, properties_of, unless_undefined, is_length}
 use Rattle.key_paths.specs.Injection.{can_inject, is_holder, all_but_last, ends_at_holder, with_properties, held, placed}
 use Rattle.key_paths.proofs.PathEnds.{no_length, holder_so, ends_inside}

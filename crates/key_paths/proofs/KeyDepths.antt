@@ -11,7 +11,8 @@ use Rattle.clone_values.specs.KeyTree as keys
 use Rattle.clone_values.specs.Values.{depth_of, trees_depth, members_depth}
 use Rattle.key_order.specs.KeyOrder.{key_cmp}
 use Rattle.key_order.proofs.KeyLaws.{key_cmp_total}
-use Rattle.key_paths.specs.Conversion.{with_first, key_within, keys_within, key_of, each_once, keys_of, key_depth, keys_depth, AreDistinct}
+use Rattle.key_paths.specs.Conversion.{with_first, key_within, keys_within, key_of, each_once, keys_of, AreDistinct}
+use Rattle.clone_values.specs.KeyValues.{key_depth, keys_depth}
 
 -- ---- depth
 joined : (o : Option KeyTree) (p : Option KeyTrees) (a b : ℕ) → IfSome o (λ k. key_depth k ≤ a) → IfSome p (λ ks. keys_depth ks ≤ b) → IfSome (with_first o p) (λ ks. keys_depth ks ≤ max a b)

@@ -14,7 +14,7 @@ use Rattle.clone_values.specs.Values.{depth_of, members_depth, holds_function, t
 use Rattle.clone_values.specs.declared.path_types.PathSpec.{PathSpec}
 use Rattle.clone_values.specs.declared.path_types.PathSpec.TheVariants.{One, Many}
 use Rattle.path_grammar.specs.KeyPath.{parts_of, is_identifier, is_path_string, is_key_path}
-use Rattle.key_paths.specs.Conversion.{value_of_key, values_of_keys, key_depth}
+use Rattle.clone_values.specs.KeyValues.{value_of_key, values_of_keys, key_depth}
 use Rattle.key_paths.specs.Evaluation.{properties_of}
 use Rattle.key_paths.specs.Injection.{held, with_properties, placed, injected}
 use Rattle.key_paths.proofs.KeysFound.{same_depth}

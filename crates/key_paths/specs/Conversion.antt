@@ -1,12 +1,10 @@
 -- Conversion of values to keys and back (Indexed Database API 3.0, 7.3 and 7.4).
 --     key_of                the key of a value, or none where the value is invalid
 --     keys_of               the keys of a list of items, each once: multi-entry conversion
---     value_of_key          the value of a key
---     key_depth             how deep a key is
-use Rattle.std.specs.Prelude.{◌≢◌, ℕ, ◌+◌, not, nat_le, max, List, [], ◌∷◌, if◌then◌else◌, Option, Some, None, option_map}
+use Rattle.std.specs.Prelude.{◌≢◌, not, nat_le, List, [], ◌∷◌, if◌then◌else◌, Option, Some, None, option_map}
 use Rattle.std.specs.List.{All, filter, filter_map}
 use Rattle.std.specs.Ordering.{is_eq}
-use Rattle.clone_values.specs.Tree.{Tree, Trees, int, date, text, bytes, array, no_trees, tree_more, no_members}
+use Rattle.clone_values.specs.Tree.{Tree, Trees, int, date, text, bytes, array, no_trees, tree_more}
 use Rattle.clone_values.specs.KeyTree.{KeyTree, KeyTrees, no_keys, key_more}
 use Rattle.clone_values.specs.KeyTree as keys
 use Rattle.clone_values.specs.Values.{depth_of}
@@ -48,26 +46,3 @@ keys_of ts = each_once (filter_map key_of ts)
 abbrev pub AreDistinct : List KeyTree → Type 0
 AreDistinct [] = Unit {0}
 AreDistinct (k ∷ ks) = All (λ j. j ≢ k) ks × AreDistinct ks
-
--- a key as a value
-abbrev mutual
-  pub value_of_key : KeyTree → Tree
-  value_of_key (keys.number n) = int n
-  value_of_key (keys.date d) = date d
-  value_of_key (keys.text s) = text s
-  value_of_key (keys.binary b) = bytes b
-  value_of_key (keys.array ks) = array (values_of_keys ks) no_members
-
-  pub values_of_keys : KeyTrees → Trees
-  values_of_keys no_keys = no_trees
-  values_of_keys (key_more k ks) = tree_more (value_of_key k) (values_of_keys ks)
-
--- a key without members has depth 1, an array key 1 more than the greatest depth of its members
-abbrev mutual
-  pub key_depth : KeyTree → ℕ
-  key_depth (keys.array ks) = 1 + keys_depth ks
-  key_depth _ = 1
-
-  pub keys_depth : KeyTrees → ℕ
-  keys_depth no_keys = 0
-  keys_depth (key_more k ks) = max (key_depth k) (keys_depth ks)

@@ -9,7 +9,7 @@ use Rattle.clone_values.specs.Names.{get_member, set_member}
 use Rattle.clone_values.specs.declared.path_types.PathSpec.{PathSpec}
 use Rattle.clone_values.specs.declared.path_types.PathSpec.TheVariants.{One, Many}
 use Rattle.path_grammar.specs.KeyPath.{parts_of}
-use Rattle.key_paths.specs.Conversion.{value_of_key}
+use Rattle.clone_values.specs.KeyValues.{value_of_key}
 use Rattle.key_paths.specs.Evaluation.{takes_length, properties_of}
 
 -- an Object or an Array, and nothing else

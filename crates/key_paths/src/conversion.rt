@@ -4,7 +4,8 @@ ghost use Rattle.std.specs.List.{All};
 ghost use Rattle.clone_values.specs.Tree.{Tree, trees_of};
 ghost use Rattle.clone_values.specs.KeyTree.{KeyTree, key_trees_of};
 ghost use Rattle.clone_values.specs.View.{tree_of, key_tree_of};
-ghost use Rattle.key_paths.specs.Conversion.{key_of, key_within, keys_within, keys_of, value_of_key, values_of_keys, key_depth, AreDistinct};
+ghost use Rattle.key_paths.specs.Conversion.{key_of, key_within, keys_within, keys_of, AreDistinct};
+ghost use Rattle.clone_values.specs.KeyValues.{value_of_key, values_of_keys, key_depth};
 
 use clone_values::{Items, Key, Keys, NoMemory, Props, Value, depth};
 use std::alloc::Global;

@@ -8,7 +8,7 @@ ghost use Rattle.clone_values.specs.declared.path_types.PathSpec.{PathSpec};
 ghost use Rattle.clone_values.specs.Tree.{Tree, object, no_members, member_more};
 ghost use Rattle.clone_values.specs.View.{tree_of, key_tree_of};
 ghost use Rattle.path_grammar.specs.KeyPath.{parts_of, is_key_path};
-ghost use Rattle.key_paths.specs.Conversion.{value_of_key, key_depth};
+ghost use Rattle.clone_values.specs.KeyValues.{value_of_key, key_depth};
 ghost use Rattle.key_paths.specs.Evaluation.{evaluated, properties_of};
 ghost use Rattle.key_paths.specs.Injection.{can_inject, injected, has_room_for, is_holder, all_but_last, ends_at_holder, placed, has_room_along, ends_in, placed_in, has_room_in};
 

@@ -10,7 +10,8 @@ use Rattle.value_bytes.specs.declared.fields.ReadError.TheVariants as error
 use Rattle.value_bytes.specs.declared.kinds.KeyKind.{KeyKind}
 use Rattle.value_bytes.specs.declared.kinds.KeyKind.TheVariants as kind
 use Rattle.value_bytes.specs.Spelling.{count_bytes, number_bytes, string_bytes}
-use Rattle.value_bytes.specs.KeySpelling.{key_spelling_of, keys_spelling, is_key, are_keys, key_depth, keys_depth, KeyIsUnicode, KeysAreUnicode, SpellsKey, KeyStands}
+use Rattle.value_bytes.specs.KeySpelling.{key_spelling_of, keys_spelling, KeyIsUnicode, KeysAreUnicode, SpellsKey, KeyStands}
+use Rattle.clone_values.specs.KeyValues.{is_key, are_keys, key_depth, keys_depth}
 use Rattle.value_bytes.specs.Steps.{◌>>=◌, byte_at, number_at, string_at, text_at, mapped_at, checked_at, counted_at}
 use Rattle.value_bytes.specs.KeyReading.{key_kind_of, key_body_at, key_at}
 use Rattle.value_bytes.proofs.Loop.{Fails}

@@ -13,7 +13,8 @@ use Rattle.clone_values.proofs.Lists.{trees_again, members_again, pairs_again}
 use Rattle.value_bytes.specs.Spelling.{count_bytes, string_bytes, spelling_of, items_spelling, members_spelling, pairs_spelling, IsUnicode, MembersAreUnicode, PairsAreUnicode}
 use Rattle.clone_values.specs.KeyTree.{KeyTree, key_trees_of, list_of_keys}
 use Rattle.clone_values.specs.KeyTree as keys
-use Rattle.value_bytes.specs.KeySpelling.{is_key, are_keys, key_spelling_of, keys_spelling, KeyIsUnicode, KeysAreUnicode}
+use Rattle.value_bytes.specs.KeySpelling.{key_spelling_of, keys_spelling, KeyIsUnicode, KeysAreUnicode}
+use Rattle.clone_values.specs.KeyValues.{is_key, are_keys}
 use Rattle.value_bytes.proofs.KeyValues.{keys_again}
 use Rattle.value_bytes.specs.Writing.{BeginsWith}
 use Rattle.value_bytes.proofs.Values.{three}

@@ -4,7 +4,8 @@ ghost use Rattle.clone_values.specs.Limits.{IsWithinLimit};
 ghost use Rattle.clone_values.specs.KeyTree.{key_trees_of};
 ghost use Rattle.clone_values.specs.View.{key_tree_of};
 ghost use Rattle.value_bytes.specs.Spelling.{count_bytes};
-ghost use Rattle.value_bytes.specs.KeySpelling.{SpellsKey, IsKey, KeyIsUnicode, KeysAreUnicode, is_key, are_keys, key_depth, key_spelling_of, keys_spelling};
+ghost use Rattle.value_bytes.specs.KeySpelling.{SpellsKey, KeyIsUnicode, KeysAreUnicode, key_spelling_of, keys_spelling};
+ghost use Rattle.clone_values.specs.KeyValues.{IsKey, is_key, are_keys, key_depth};
 ghost use Rattle.value_bytes.specs.Writing.{BeginsWith};
 
 use crate::put_fields::{put_byte, put_count, put_number, put_string};

@@ -1,10 +1,7 @@
 -- The JSON document that a value is written as.
 --     json_of               that of a value
---     value_of_key          the value that converts to a key, as which the key is written
 use Rattle.std.specs.Prelude.{ℕ, Bool, false, ◌||◌, List, [], ◌∷◌, if◌then◌else◌, codes}
 use Rattle.clone_values.specs.Tree.{Tree, Trees, Members, PairTrees, undefined, null, boolean, int, text, date, bytes, array, object, map_object, set_object, function, no_trees, tree_more, no_members, member_more, no_pairs, pair_more}
-use Rattle.clone_values.specs.KeyTree.{KeyTree, KeyTrees, no_keys, key_more}
-use Rattle.clone_values.specs.KeyTree as keys
 use Rattle.serde_json.specs.Data.{Data, put}
 use Rattle.serde_json.specs.Data as json
 use Rattle.serde_json.specs.Find.{of_integer}
@@ -66,15 +63,3 @@ abbrev mutual
   pub members_json : json.Members → Members → json.Members
   members_json done no_members = done
   members_json done (member_more n t ms) = members_json (put n (json_of t) done) ms
-
-abbrev mutual
-  pub value_of_key : KeyTree → Tree
-  value_of_key (keys.number n) = int n
-  value_of_key (keys.date d) = date d
-  value_of_key (keys.text s) = text s
-  value_of_key (keys.binary b) = bytes b
-  value_of_key (keys.array ks) = array (values_of_keys ks) no_members
-
-  pub values_of_keys : KeyTrees → Trees
-  values_of_keys no_keys = no_trees
-  values_of_keys (key_more k ks) = tree_more (value_of_key k) (values_of_keys ks)

@@ -5,7 +5,8 @@ ghost use Rattle.clone_values.specs.Tree.{bytes as bytes_tree, trees_of, members
 ghost use Rattle.clone_values.specs.View.{tree_of, key_tree_of};
 ghost use Rattle.serde_json.specs.Data.{no_members};
 ghost use Rattle.serde_json.specs.View.{view, members_view};
-ghost use Rattle.value_json.specs.Writing.{json_of, marked, pair_data, array_data, list_data, any_marked_name, items_json, pairs_json, named_json, members_json, value_of_key, values_of_keys};
+ghost use Rattle.value_json.specs.Writing.{json_of, marked, pair_data, array_data, list_data, any_marked_name, items_json, pairs_json, named_json, members_json};
+ghost use Rattle.clone_values.specs.KeyValues.{value_of_key, values_of_keys};
 
 use crate::marks::begins_marked;
 use clone_values::{Bytes, Items, Key, Keys, NoMemory, Pairs, Props, Value};

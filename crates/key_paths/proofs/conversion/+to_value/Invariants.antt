@@ -1,7 +1,7 @@
 use Rattle.std.proofs.Common.{◌≡◌, ◌++◌, drop, map}
 use Rattle.clone_values.specs.KeyTree.{key_size, keys_size, key_trees_of}
 use Rattle.clone_values.specs.View.{tree_of, key_tree_of}
-use Rattle.key_paths.specs.Conversion.{value_of_key}
+use Rattle.clone_values.specs.KeyValues.{value_of_key}
 use Rattle.key_paths.proofs.conversion.+to_value.Given as goal
 
 abbrev pub decreases-to_value : goal.decreases-to_value

@@ -3,7 +3,8 @@ use Rattle.std.proofs.lemmas.Result.{on_ok_weaker}
 use Rattle.clone_values.specs.Falls.{smaller_key}
 use Rattle.clone_values.specs.KeyTree.{key_size}
 use Rattle.clone_values.specs.View.{key_tree_of}
-use Rattle.value_bytes.specs.KeySpelling.{is_key, key_spelling_of}
+use Rattle.value_bytes.specs.KeySpelling.{key_spelling_of}
+use Rattle.clone_values.specs.KeyValues.{is_key}
 use Rattle.value_bytes.proofs.Puts.{KeysPut, key_parts, keys_put, key_ready, key_put}
 use Rattle.value_bytes.proofs.key_writing.+put.Goals as goal
 use Rattle.value_bytes.proofs.key_writing.+put.Goals.{put_keys-in-Some+in_ok-put_key, put_keys-in_default}

@@ -2,7 +2,8 @@ use Rattle.std.proofs.Common.{◌≡◌, ◌++◌, drop, map}
 use Rattle.clone_values.specs.KeyTree.{key_size, keys_size, key_trees_of}
 use Rattle.clone_values.specs.View.{key_tree_of}
 use Rattle.serde_json.specs.View.{view}
-use Rattle.value_json.specs.Writing.{items_json, values_of_keys}
+use Rattle.value_json.specs.Writing.{items_json}
+use Rattle.clone_values.specs.KeyValues.{values_of_keys}
 use Rattle.value_json.proofs.writing.+write_key.Given as goal
 
 abbrev pub decreases-key_to_json : goal.decreases-key_to_json
