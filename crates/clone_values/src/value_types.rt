@@ -1,5 +1,5 @@
 // Values and their lists. Contracts see an item as its plain tree, and a list as the list of these.
-ghost use Rattle.std.specs.Prelude.{◌≡◌, ℕ, ◌<◌, ◌≤◌, true, List, [], ◌∷◌, ◌++◌, length, map, slice_get, option_map, slice_set, vec_len, IfOk, IfErr, IfSome, IfNone, OnOk, OnErr, None, Some};
+ghost use Rattle.std.specs.Prelude.{◌≡◌, ℕ, ◌^◌, ◌<◌, ◌≤◌, true, List, [], ◌∷◌, ◌++◌, length, map, slice_get, option_map, slice_set, vec_len, IfOk, IfErr, IfSome, IfNone, OnOk, OnErr, None, Some};
 ghost use Rattle.std.specs.Option.{option_copied};
 ghost use Rattle.clone_values.specs.Limits.{HasRoom, StandsAt};
 ghost use Rattle.std.specs.List.{insert};
@@ -88,7 +88,8 @@ impl Items {
 
     /// How many items there are.
     pub fn len(&self) -> usize
-        ensures { result ≡ length self.now }
+        ensures count { result ≡ length self.now }
+        ensures small { result < 2 ^ 63 }
     {
         self.items.len()
     }

@@ -1,10 +1,8 @@
 // Why a log was not opened, or a batch not appended.
 ghost use Rattle.std.specs.Prelude.{◌≡◌};
-ghost use Rattle.gate_log.specs.declared.error.LogError.TheVariants.{DiskFault, NoMemory as WantOfMemory};
+ghost use Rattle.gate_log.specs.declared.error.LogError.TheVariants.{DiskFault};
 
-use disk_trait::{Area, Failed};
-use edge_traits::NoMemory;
-use std::alloc::AllocError;
+use gate_areas::{Area, Failed, ReadError};
 
 /// Why a log was not opened.
 #[derive(Clone, Copy, Debug, PartialEq, Eq)]
@@ -34,18 +32,15 @@ impl From<Failed> for LogError {
     }
 }
 
-impl From<NoMemory> for LogError {
-    ghost from_gives = { λ _ error. error ≡ WantOfMemory };
+impl From<ReadError> for LogError {
+    ghost use Rattle.gate_log.specs.Errors.{log_error_of};
 
-    fn from(_none: NoMemory) -> LogError {
-        LogError::NoMemory
-    }
-}
+    ghost from_gives = { λ read error. error ≡ log_error_of read };
 
-impl From<AllocError> for LogError {
-    ghost from_gives = { λ _ error. error ≡ WantOfMemory };
-
-    fn from(_none: AllocError) -> LogError {
-        LogError::NoMemory
+    fn from(read: ReadError) -> LogError {
+        match read {
+            ReadError::DiskFault => LogError::DiskFault,
+            ReadError::NoMemory => LogError::NoMemory,
+        }
     }
 }

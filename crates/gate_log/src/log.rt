@@ -2,45 +2,32 @@
 ghost use Rattle.std.proofs.Props.{props};
 ghost use Rattle.gate_log.specs.Kept.{IsKept};
 
-use crate::batches::Batches;
-use crate::collect::collect;
 use crate::error::{AppendError, LogError};
-use crate::frame::Frame;
-use crate::make::make_area;
 use crate::open::{Opened, open_disk};
-use crate::seal::seal;
-use disk_trait::{Area, Disk};
+use gate_areas::{Area, Batches, Disk, Frame, LiveArea, collect, make_area, make_area_with, seal};
 use std::alloc::Global;
-
-const CLOSED: u8 = 0;
-
-const OPEN: u8 = 0xa5;
 
 /// A log of batches in one area of a disk.
 #[derive(Drop)]
 pub struct GateLog<D: Disk> {
     disk: D,
-    area: Area,
-    generation: u64,
-    gate: u64,
+    live: LiveArea,
     seen: Option<u64>,
-    ghost kept: { IsKept D.reads D.may_leave D.length_of D.faults disk area generation gate seen } by { Prim.hlevel props },
+    ghost kept: { IsKept D.reads D.may_leave D.length_of D.faults disk live seen } by { Prim.hlevel props },
 }
 
 impl<D: Disk> GateLog<D> {
     ghost use Rattle.std.specs.Prelude.{◌≡◌, ◌⊎◌, IfOk, IfErr, MatchResult, ◌↔◌, ◌≤◌, ◌+◌, ◌++◌, ◌∷◌, [], ℕ, Some, None, Ok, length, IsOk, OnOk, OnErr, IsErrOf};
     ghost use Rattle.edge_traits.specs.Faults.{Rose};
-    ghost use Rattle.disk_trait.specs.Areas.{Areas, area_of};
     ghost use Rattle.disk_trait.specs.Disk.{WhereTold, NoNewImage, OnArea, IsSettled, ComesFrom, LeavesOnly};
-    ghost use Rattle.gate_log.specs.Sealed.{BatchList};
+    ghost use Rattle.gate_areas.specs.Sealed.{BatchList};
     ghost use Rattle.disk_trait.specs.declared.area.Area.{Area};
     ghost use Rattle.gate_log.specs.Causes.{HasReadCause};
     ghost use Rattle.gate_log.specs.Opened.{FoundAs, IsOldOr};
-    ghost use Rattle.gate_log.specs.Untouched.{Untouched};
-    ghost use Rattle.gate_log.specs.Found.{Damaged, Live, Nothing, found_of, batches_in, HasRoom, SameBatches, SameBatchesOr};
-    ghost use Rattle.gate_log.specs.Kept.{IsBeforeOrAfter};
-    ghost use Rattle.gate_log.specs.Steps.{KeepsFront};
-    ghost use Rattle.gate_log.specs.Log.{HasBatches, IsNew, EachImage, disk_of, live_area, generation_of, last_gate, failed_at};
+    ghost use Rattle.gate_areas.specs.Untouched.{Untouched};
+    ghost use Rattle.gate_areas.specs.Found.{Damaged, Live, Nothing, found_of, batches_in, HasRoom, SameBatches, SameBatchesOr, IsBeforeOrAfter};
+    ghost use Rattle.gate_areas.specs.Steps.{KeepsFront};
+    ghost use Rattle.gate_log.specs.Log.{HasBatches, IsNew, IsInDoubt, EachImage, disk_of, live_area, generation_of, last_gate, failed_at};
 
     /// Makes a log in an area, where both are blank. A stop at any moment of it leaves no batch. `NoMemory` and
     /// `Damaged` never come.
@@ -58,12 +45,10 @@ impl<D: Disk> GateLog<D> {
         ensures count { MatchResult result (λ log. D.faults disk ≤ D.faults (disk_of log)) (λ err. D.faults disk ≤ D.faults err.1) }
     {
         let mut disk = disk;
-        match make_area(&mut disk, area, generation, CLOSED, &[]) {
-            Ok(()) => Ok(GateLog {
+        match make_area(&mut disk, area, generation) {
+            Ok(live) => Ok(GateLog {
                 disk,
-                area,
-                generation,
-                gate: 17,
+                live,
                 seen: None,
             }),
             Err(_) => Err((LogError::DiskFault, disk)),
@@ -91,13 +76,10 @@ impl<D: Disk> GateLog<D> {
         ensures count { MatchResult result (λ log. D.faults disk ≤ D.faults (disk_of log)) (λ err. D.faults disk ≤ D.faults err.1) }
     {
         let mut disk = disk;
-        let frame = first.as_slice();
-        match make_area(&mut disk, area, generation, OPEN, frame) {
-            Ok(()) => Ok(GateLog {
+        match make_area_with(&mut disk, area, generation, first) {
+            Ok(live) => Ok(GateLog {
                 disk,
-                area,
-                generation,
-                gate: 17 + frame.len() as u64,
+                live,
                 seen: None,
             }),
             Err(_) => Err((LogError::DiskFault, disk)),
@@ -112,6 +94,7 @@ impl<D: Disk> GateLog<D> {
         // What is found of what reads give, and a log that has it.
         ensures found { IfOk result (λ opened. WhereTold (D.reads disk) (λ areas.
             FoundAs (live_area opened.0) (generation_of opened.0) opened.1 (found_of areas))) }
+        ensures same_batches { IfOk result (λ opened. WhereTold (D.reads disk) (λ areas. batches_in areas ≡ Ok opened.1)) }
         ensures has { IfOk result (λ opened. HasBatches D.reads opened.0 opened.1) }
         ensures sealed { IfOk result (λ opened.
             EachImage D.may_leave opened.0 (λ image. batches_in image ≡ Ok opened.1)) }
@@ -137,17 +120,10 @@ impl<D: Disk> GateLog<D> {
         let mut disk = disk;
         match open_disk(alloc, &mut disk) {
             Ok(opened) => {
-                let Opened {
-                    area,
-                    generation,
-                    gate,
-                    batches,
-                } = opened;
+                let Opened { live, batches } = opened;
                 let log = GateLog {
                     disk,
-                    area,
-                    generation,
-                    gate,
+                    live,
                     seen: None,
                 };
                 Ok((log, batches))
@@ -167,14 +143,14 @@ impl<D: Disk> GateLog<D> {
         ensures same_fault { failed_at self.new ≡ failed_at self.old }
         ensures cause { HasReadCause (D.faults (disk_of self.old)) (D.faults (disk_of self.new)) result }
     {
-        collect(alloc, &mut self.disk, self.area, self.gate)
+        Ok(collect(alloc, &mut self.disk, self.live)?)
     }
 
     /// The generation of the log's area.
     pub fn generation(&self) -> u64
         ensures { result ≡ generation_of self.now }
     {
-        self.generation
+        self.live.generation
     }
 
     /// Appends a batch, in four device calls. At `Ok` it is sealed: from then on a stop at any moment leaves it. After
@@ -196,9 +172,12 @@ impl<D: Disk> GateLog<D> {
 
         ensures failed { OnErr result ((batches : BatchList) → HasBatches D.reads self.old batches
             → HasBatches D.reads self.new batches) }
+        ensures in_doubt { IsErrOf result AppendError.DiskFault → (batches : BatchList) → HasBatches D.reads self.new batches
+            → EachImage D.may_leave self.new (IsBeforeOrAfter batches (last_gate self.new, frame.now)) }
         ensures same_area { live_area self.new ≡ live_area self.old }
         ensures same_generation { generation_of self.new ≡ generation_of self.old }
         ensures next_gate { OnOk result (last_gate self.new ≡ last_gate self.old + 9 + length frame.now) }
+        ensures same_gate { OnErr result (last_gate self.new ≡ last_gate self.old) }
 
         ensures ok { IsOk result → (failed_at self.old ≡ None) × (failed_at self.new ≡ None) }
         ensures disk_fault { IsErrOf result AppendError.DiskFault → (failed_at self.old ≡ None)
@@ -210,35 +189,49 @@ impl<D: Disk> GateLog<D> {
     {
         match self.seen {
             Some(seen) => Err(AppendError::Faulted { seen }),
-            None => {
-                let bytes = frame.as_slice();
-                match seal(&mut self.disk, self.area, self.gate, bytes) {
-                    Ok(()) => {
-                        self.gate += bytes.len() as u64;
-                        Ok(())
-                    }
-                    Err(_) => {
-                        self.seen = Some(self.disk.fault_count());
-                        Err(AppendError::DiskFault)
-                    }
+            None => match seal(&mut self.disk, self.live, frame) {
+                Ok(next) => {
+                    self.live = next;
+                    Ok(())
                 }
-            }
+                Err(_) => {
+                    self.seen = Some(self.disk.fault_count());
+                    Err(AppendError::DiskFault)
+                }
+            },
         }
+    }
+
+    /// The count of faults that was seen when an append failed; `None` until then. It costs nothing.
+    pub fn failed(&self) -> Option<u64>
+        ensures value { result ≡ failed_at self.now }
+        ensures counted { (seen : ℕ) → failed_at self.now ≡ Some seen → seen ≤ D.faults (disk_of self.now) }
+
+        // A stop now leaves the log's batches or, after an append that failed, these or these and the one that failed.
+        ensures sealed { failed_at self.now ≡ None → (batches : BatchList) → HasBatches D.reads self.now batches
+            → EachImage D.may_leave self.now (λ image. batches_in image ≡ Ok batches) }
+        ensures in_doubt { (seen : ℕ) → failed_at self.now ≡ Some seen → IsInDoubt D.reads D.may_leave self.now }
+    {
+        self.seen
     }
 
     /// The area that it writes to.
     pub fn area(&self) -> Area
         ensures { result ≡ live_area self.now }
     {
-        self.area
+        self.live.area
     }
 
-    /// The disk. Where no append failed, a stop leaves what reads give, and the log is what is found of that.
+    /// The disk. Where no append failed, a stop leaves what reads give, and the log is what is found of that. After an
+    /// append that failed a stop leaves the log's batches, or these and one more.
     pub fn into_disk(self) -> D
         ensures disk { result ≡ disk_of self }
         ensures settled { failed_at self ≡ None → IsSettled (D.reads result) (D.may_leave result) }
         ensures found { failed_at self ≡ None → (batches : BatchList) → HasBatches D.reads self batches
             → WhereTold (D.reads result) (λ areas. found_of areas ≡ Live (live_area self) (generation_of self) batches) }
+        ensures sealed { failed_at self ≡ None → (batches : BatchList) → HasBatches D.reads self batches
+            → EachImage D.may_leave self (λ image. batches_in image ≡ Ok batches) }
+        ensures in_doubt { (seen : ℕ) → failed_at self ≡ Some seen → IsInDoubt D.reads D.may_leave self }
     {
         self.disk
     }

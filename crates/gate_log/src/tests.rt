@@ -708,17 +708,9 @@ fn the_batches_of_a_log_are_read_again(rt: HostRuntime) -> Result<(), Fail> {
     }
     let again = read_again(alloc, &mut log).ok_or("the batches")?;
     assert!(rt; are(&again, &[(17, ONE), (29, &[]), (38, TWO)]));
-
-    let mut payload = Payload::new(alloc);
-    payload.push(5)?;
-    assert_eq!(rt; payload.len(), 1);
-    assert_eq!(rt; payload.at(0).copied(), Some(5));
-    assert!(rt; payload.at(1).is_none());
-    let mut batches = Batches::new(alloc);
-    batches.push(Batch { place: 17, payload })?;
-    assert!(rt; are(&batches, &[(17, &[5])]));
     Ok(())
 }
+
 // A log in the other area, of the next generation, with one batch.
 fn switched(alloc: Global, disk: MemoryDisk, first: &Frame) -> Option<Made> {
     let Ok(opened) = GateLog::load(alloc, disk) else {
@@ -736,36 +728,62 @@ fn switched(alloc: Global, disk: MemoryDisk, first: &Frame) -> Option<Made> {
     Some(GateLog::create_with(log.into_disk(), area, generation + 1, first))
 }
 
+// Over the worked area: whether a log with a first batch was made, the generation and the number of batches that are
+// found after a restart, and whether they are that first batch. None: another answer than these.
+fn taken_over(
+    alloc: Global,
+    fails: Option<u64>,
+    stop_after: Option<u64>,
+    image: Image,
+    first: &Frame,
+) -> Result<Option<(bool, u64, usize, bool)>, Fail> {
+    let mut disk = disk_with(alloc, 1000, fails, stop_after, image)?;
+    if !written(&mut disk, Area::Zero, &WORKED) {
+        return Ok(None);
+    }
+    let (is_made, mut disk) = match switched(alloc, disk, first) {
+        Some(Ok(log)) => (true, disk_in(log)),
+        Some(Err((LogError::DiskFault, disk))) => (false, disk),
+        _ => return Ok(None),
+    };
+    if !restarted(&mut disk) {
+        return Ok(None);
+    }
+    match loaded(alloc, disk) {
+        Ok((log, found)) => Ok(Some((
+            is_made,
+            log.generation(),
+            found.len(),
+            are(&found, &[(17, ONE)]),
+        ))),
+        Err(_) => Ok(None),
+    }
+}
+
 #[test]
 fn a_log_with_a_first_batch_takes_over_or_does_not(rt: HostRuntime) -> Result<(), Fail> {
     let alloc = rt.alloc();
     let first = Frame::new(alloc, ONE)?;
-    let dry = disk_with(alloc, 1000, None, None, Image::Kept)?;
-    let mut dry = dry;
+    let mut dry = disk_with(alloc, 1000, None, None, Image::Kept)?;
     assert!(rt; written(&mut dry, Area::Zero, &WORKED));
     let (log, _) = loaded(alloc, dry).ok().ok_or("a log")?;
     let before = disk_in(log).calls_made();
     for image in &IMAGES {
+        // A length, 00 at 0, the rest in two writes, and a5 at 0, with a sync after each of the three. Stopped after k
+        // calls, or with the next one failing, what was not synced is in doubt.
         for k in 0..=8u64 {
-            let mut disk = disk_with(alloc, 1000, None, before.checked_add(k), *image)?;
-            assert!(rt; written(&mut disk, Area::Zero, &WORKED));
-            let made = switched(alloc, disk, &first).ok_or("a log before")?;
-            assert_eq!(rt; made.is_ok(), k == 8, "{image:?} after {k}");
-            let mut disk = match made {
-                Ok(log) => disk_in(log),
-                Err((_, disk)) => disk,
-            };
-            assert!(rt; restarted(&mut disk));
-            let (log, found) = loaded(alloc, disk).ok().ok_or("a log")?;
             let is_new = k == 8 || (k >= 6 && matches!(image, Image::Kept | Image::Byte(0xa5)));
-            assert_eq!(rt;
-                log.generation(),
-                if is_new { 2 } else { 1 },
-                "{image:?} after {k}"
-            );
-            assert_eq!(rt; found.len(), if is_new { 1 } else { 2 });
-            if is_new {
-                assert!(rt; are(&found, &[(17, ONE)]));
+            let wanted = if is_new {
+                Some((k == 8, 2, 1, true))
+            } else {
+                Some((false, 1, 2, false))
+            };
+            let stopped = taken_over(alloc, None, before.checked_add(k), *image, &first)?;
+            assert!(rt; stopped == wanted, "{image:?}, stopped after {k}");
+            if k < 8 {
+                let fails = before.checked_add(k.wrapping_add(1));
+                let failed = taken_over(alloc, fails, None, *image, &first)?;
+                assert!(rt; failed == wanted, "{image:?}, failed after {k}");
             }
         }
     }

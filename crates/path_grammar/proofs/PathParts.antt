@@ -25,7 +25,7 @@ one_part (b ∷ bs) h =
       | false ↦ λ k. ap (onto_first b) (one_part bs (omega arith))
     ] h
 
-some_part : (bs : List ℕ) → 1 ≤ length (parts_of bs)
+pub some_part : (bs : List ℕ) → 1 ≤ length (parts_of bs)
 some_part [] = omega arith
 some_part (b ∷ bs) =
     elim (b == 46) as (λ t. 1 ≤ length (if t then [] ∷ parts_of bs else onto_first b (parts_of bs))) [ true ↦ omega arith | false ↦ first (parts_of bs) ]

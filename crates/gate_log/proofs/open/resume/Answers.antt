@@ -1,12 +1,17 @@
-use Rattle.std.proofs.Common.{ℕ, sym, ◌∙◌, subst}
-use Rattle.disk_trait.specs.declared.area.Area.TheVariants.{Zero, One}
-use Rattle.gate_log.specs.Scan.{ScanFits}
-use Rattle.gate_log.proofs.Choosing.{fits_area}
+use Rattle.std.proofs.Common.{sym, ◌∙◌, subst}
+use Rattle.gate_areas.specs.Choice.{ChoiceIs}
+use Rattle.gate_areas.specs.declared.choose.Choice.{Choice}
 use Rattle.gate_log.proofs.open.resume.Goals as goal
 
-pub go_on-requires-clause-fits : goal.go_on-requires-clause-fits
-go_on-requires-clause-fits g c =
-    fits_area c.in-Live.area c.in-Live.generation c.in-Live.gate (g.D.Disk.length_of c.scan_area-2.new.disk)
-    (c.in-Live.ensures.fits _ _
-    (subst (λ (n : ℕ). ScanFits c.in_ok-zero.zero n) (sym (c.scan_area-2.ensures.untouched.same_lengths Zero ∙ c.scan_area.ensures.untouched.same_lengths Zero)) c.in_ok-zero.ensures.fits)
-    (subst (λ (n : ℕ). ScanFits c.in_ok-one.one n) (sym (c.scan_area-2.ensures.untouched.same_lengths One)) c.in_ok-one.ensures.fits))
+pub start_new-requires-clause-blank : goal.start_new-requires-clause-blank
+start_new-requires-clause-blank g c = λ areas told.
+    subst (λ (choice : Choice). ChoiceIs choice areas) c.in-New.is (c.in_ok-find_live.ensures.found areas (sym c.find_live.ensures.untouched.same_reads ∙ told))
+
+pub go_on-requires-clause-lives : goal.go_on-requires-clause-lives
+go_on-requires-clause-lives g c = λ areas told.
+    subst (λ (choice : Choice). ChoiceIs choice areas) c.in-Live.is (c.in_ok-find_live.ensures.found areas (sym c.find_live.ensures.untouched.same_reads ∙ told))
+
+pub returns-in-Damaged-clause-damaged : goal.returns-in-Damaged-clause-damaged
+returns-in-Damaged-clause-damaged g c = λ area place is areas told.
+    let found = subst (λ (choice : Choice). ChoiceIs choice areas) c.in-Damaged.is (c.in_ok-find_live.ensures.found areas told) in
+    cc

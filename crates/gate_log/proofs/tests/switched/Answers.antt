@@ -1,6 +1,6 @@
 use Rattle.std.proofs.Common.{◌≡◌, ◌+◌, sym, ◌∙◌, ap, subst, arith}
 use Rattle.disk_trait.specs.Areas.{other_area}
-use Rattle.gate_log.specs.Found.{HasRoom}
+use Rattle.gate_areas.specs.Found.{HasRoom}
 use Rattle.gate_log.proofs.tests.switched.Goals as goal
 use Rattle.gate_log.proofs.tests.switched.Goals.{in-Zero, in-One}
 

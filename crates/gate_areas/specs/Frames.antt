@@ -1,0 +1,12 @@
+-- A batch as it is written behind its gate.
+use Rattle.std.specs.Prelude.{ℕ, ◌-◌, List, [], ◌∷◌, ◌++◌, length, take, drop}
+use Rattle.std.specs.Int.{w64, to_be_bytes}
+use Rattle.gate_areas.specs.Sealed.{CLOSED}
+
+-- the frame of a payload: its length in eight bytes, the highest first, the payload, and a closed gate
+abbrev pub frame_of : List ℕ → List ℕ
+frame_of payload = to_be_bytes w64 (length payload) ++ payload ++ CLOSED ∷ []
+
+-- the payload in the bytes of a frame
+abbrev pub payload_of : List ℕ → List ℕ
+payload_of bytes = take (length bytes - 9) (drop 8 bytes)

@@ -1,0 +1,14 @@
+pub use Rattle.disk_trait.specs.Areas
+pub use Rattle.disk_trait.specs.Disk
+pub use Rattle.disk_trait.specs.Moments
+pub use Rattle.edge_traits.specs.Faults
+pub mod Choice
+pub mod Found
+pub mod Frames
+pub mod Fronts
+pub mod LiveBatches
+pub mod Rest
+pub mod Scan
+pub mod Sealed
+pub mod Steps
+pub mod Untouched

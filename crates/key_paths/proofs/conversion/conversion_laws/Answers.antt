@@ -1,0 +1,8 @@
+use Rattle.std.specs.List.{filter_map}
+use Rattle.key_paths.specs.Conversion.{key_of}
+use Rattle.key_paths.proofs.KeysFound.{key_again}
+use Rattle.key_paths.proofs.KeyDepths.{shallow, all_shallow, once}
+use Rattle.key_paths.proofs.conversion.conversion_laws.Goals as goal
+
+pub returns : goal.returns
+returns c = record { again = key_again; shallow = shallow; all_shallow = all_shallow; once = λ ts. once (filter_map key_of ts) }

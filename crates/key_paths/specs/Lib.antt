@@ -1,0 +1,5 @@
+pub mod Conversion
+pub mod Evaluation
+pub mod Injection
+pub mod KeysSeen
+pub mod View

@@ -1,0 +1,100 @@
+// Conversion of values to keys, and of keys to values.
+ghost use Rattle.std.specs.Prelude.{◌≡◌, ℕ, ◌≤◌, List, Some, option_map, IfOk, IfSome};
+ghost use Rattle.std.specs.List.{All};
+ghost use Rattle.clone_values.specs.Tree.{Tree, trees_of};
+ghost use Rattle.clone_values.specs.KeyTree.{KeyTree, key_trees_of};
+ghost use Rattle.clone_values.specs.View.{tree_of, key_tree_of};
+ghost use Rattle.key_paths.specs.Conversion.{key_of, key_within, keys_within, keys_of, value_of_key, values_of_keys, key_depth, AreDistinct};
+
+use clone_values::{Items, Key, Keys, NoMemory, Props, Value, depth};
+use std::alloc::Global;
+
+/// The deepest value that converts.
+const DEEPEST: u32 = 100;
+
+/// The key of a value; `None` where it is invalid, before any memory is asked for where it is too deep
+/// (Indexed Database API 3.0, 7.4, "convert a value to a key").
+pub fn to_key(alloc: Global, v: &Value) -> Result<Option<Key>, NoMemory>
+    ensures { IfOk result (λ r. option_map key_tree_of r ≡ key_of (tree_of v.now)) }
+{
+    if depth(v) > DEEPEST {
+        return Ok(None);
+    }
+    key_within(alloc, v)
+}
+
+#[cycle(to_key)]
+#[tactic(auto, using(clone_values::specs::Falls::smaller_tree))]
+fn key_within(alloc: Global, v: &Value) -> Result<Option<Key>, NoMemory>
+    ensures { IfOk result (λ r. option_map key_tree_of r ≡ key_within (tree_of v.now)) }
+{
+    match v {
+        Value::Int(n) => Ok(Some(Key::Number(*n))),
+        Value::Date(d) => Ok(Some(Key::Date(*d))),
+        Value::Text(s) => Ok(Some(Key::Text(s.copy(alloc)?))),
+        Value::Bytes(b) => Ok(Some(Key::Binary(b.copy(alloc)?))),
+        Value::Array(items, _) => match keys_within(alloc, items)? {
+            Some(keys) => Ok(Some(Key::Array(keys))),
+            None => Ok(None),
+        },
+        _ => Ok(None),
+    }
+}
+
+#[cycle(to_key)]
+#[tactic(auto, using(clone_values::specs::Falls::smaller_tree))]
+fn keys_within(alloc: Global, items: &Items) -> Result<Option<Keys>, NoMemory>
+    ensures { IfOk result (λ r. option_map key_trees_of r ≡ keys_within (trees_of items.now)) }
+{
+    let mut keys = Vec::new(alloc);
+    for place in 0..items.len() {
+        if let Some(item) = items.at(place) {
+            match key_within(alloc, item)? {
+                Some(key) => keys.push(key)?,
+                None => return Ok(None),
+            }
+        }
+    }
+    Ok(Some(Keys::from_vec(keys)))
+}
+
+/// The value of a key (Indexed Database API 3.0, 7.3, "convert a key to a value").
+#[cycle(to_value)]
+#[tactic(auto, using(clone_values::specs::Falls::smaller_key))]
+pub fn to_value(alloc: Global, key: &Key) -> Result<Value, NoMemory>
+    ensures { IfOk result (λ r. tree_of r ≡ value_of_key (key_tree_of key.now)) }
+{
+    match key {
+        Key::Number(n) => Ok(Value::Int(*n)),
+        Key::Date(d) => Ok(Value::Date(*d)),
+        Key::Text(s) => Ok(Value::Text(s.copy(alloc)?)),
+        Key::Binary(b) => Ok(Value::Bytes(b.copy(alloc)?)),
+        Key::Array(keys) => {
+            let items = values_of(alloc, keys)?;
+            Ok(Value::Array(items, Props::new(alloc)))
+        }
+    }
+}
+
+#[cycle(to_value)]
+#[tactic(auto, using(clone_values::specs::Falls::smaller_key))]
+fn values_of(alloc: Global, keys: &Keys) -> Result<Items, NoMemory>
+    ensures { IfOk result (λ r. trees_of r ≡ values_of_keys (key_trees_of keys.now)) }
+{
+    let mut items = Vec::new(alloc);
+    for place in 0..keys.len() {
+        if let Some(key) = keys.at(place) {
+            items.push(to_value(alloc, key)?)?;
+        }
+    }
+    Ok(Items::from_vec(items))
+}
+
+/// The laws of conversion: the key of a key's value is that key, for every key that is at most 100 deep; every key of a
+/// value and of an item is at most 100 deep; multi-entry conversion gives no key twice.
+pub fn conversion_laws()
+    ensures again { (k : KeyTree) → key_depth k ≤ 100 → key_of (value_of_key k) ≡ Some k }
+    ensures shallow { (t : Tree) → IfSome (key_of t) (λ k. key_depth k ≤ 100) }
+    ensures all_shallow { (ts : List Tree) → All (λ k. key_depth k ≤ 100) (keys_of ts) }
+    ensures once { (ts : List Tree) → AreDistinct (keys_of ts) }
+{}

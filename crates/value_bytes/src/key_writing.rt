@@ -1,0 +1,79 @@
+// Keys, written as their bytes.
+ghost use Rattle.std.specs.Prelude.{◌≡◌, ◌≤◌, ◌++◌, true, length, OnOk, OnErr};
+ghost use Rattle.clone_values.specs.Limits.{IsWithinLimit};
+ghost use Rattle.clone_values.specs.KeyTree.{key_trees_of};
+ghost use Rattle.clone_values.specs.View.{key_tree_of};
+ghost use Rattle.value_bytes.specs.Spelling.{count_bytes};
+ghost use Rattle.value_bytes.specs.KeySpelling.{SpellsKey, IsKey, KeyIsUnicode, KeysAreUnicode, is_key, are_keys, key_depth, key_spelling_of, keys_spelling};
+ghost use Rattle.value_bytes.specs.Writing.{BeginsWith};
+
+use crate::put_fields::{put_byte, put_count, put_number, put_string};
+use clone_values::{Key, Keys, NoMemory};
+
+/// Puts the spelling of the key at the end.
+pub fn write_key(out: &mut Vec<u8>, key: &Key) -> Result<(), NoMemory>
+    requires well_formed { IsKey (key_tree_of key.now) }
+    requires depth { key_depth (key_tree_of key.now) ≤ 100 }
+    ensures written { OnOk result (out.new.items ≡ out.old.items ++ key_spelling_of (key_tree_of key.now)) }
+    ensures spelled { OnOk result (SpellsKey (key_spelling_of (key_tree_of key.now)) (key_tree_of key.now)) }
+    ensures unchanged { OnErr result (out.new.items ≡ out.old.items) }
+{
+    let before = out.len();
+    match put_key(out, key) {
+        Ok(()) => Ok(()),
+        Err(e) => {
+            out.truncate(before);
+            Err(e)
+        }
+    }
+}
+
+#[cycle(put)]
+#[tactic(auto, using(clone_values::specs::Falls::smaller_key, crate::proofs::Puts::begins_more))]
+fn put_key(out: &mut Vec<u8>, key: &Key) -> Result<(), NoMemory>
+    requires { is_key (key_tree_of key.now) ≡ true }
+    ensures written { OnOk result (out.new.items ≡ out.old.items ++ key_spelling_of (key_tree_of key.now)) }
+    ensures unicode { OnOk result (KeyIsUnicode (key_tree_of key.now)) }
+    ensures front { OnErr result (BeginsWith out.old.items out.new.items) }
+{
+    match key {
+        Key::Number(n) => {
+            put_byte(out, 0x21)?;
+            put_number(out, *n)
+        }
+        Key::Date(d) => {
+            put_byte(out, 0x22)?;
+            put_number(out, *d)
+        }
+        Key::Text(s) => {
+            put_byte(out, 0x23)?;
+            put_string(out, s.as_str().as_bytes())
+        }
+        Key::Binary(b) => {
+            put_byte(out, 0x24)?;
+            put_string(out, b.as_slice())
+        }
+        Key::Array(keys) => {
+            put_byte(out, 0x25)?;
+            put_keys(out, keys)
+        }
+    }
+}
+
+#[cycle(put)]
+#[tactic(auto, using(clone_values::specs::Falls::smaller_key, crate::proofs::Puts::begins_more))]
+fn put_keys(out: &mut Vec<u8>, keys: &Keys) -> Result<(), NoMemory>
+    requires formed { are_keys (key_trees_of keys.now) ≡ true }
+    requires limit { IsWithinLimit keys.now }
+    ensures written { OnOk result (out.new.items ≡ out.old.items ++ (count_bytes (length keys.now) ++ keys_spelling (key_trees_of keys.now))) }
+    ensures unicode { OnOk result (KeysAreUnicode (key_trees_of keys.now)) }
+    ensures front { OnErr result (BeginsWith out.old.items out.new.items) }
+{
+    put_count(out, keys.len())?;
+    for place in 0..keys.len() {
+        if let Some(key) = keys.at(place) {
+            put_key(out, key)?;
+        }
+    }
+    Ok(())
+}

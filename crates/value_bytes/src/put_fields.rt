@@ -1,0 +1,42 @@
+// The fields that spellings are made of, written at the end of a vector. Where memory runs out the vector begins as it did.
+ghost use Rattle.std.specs.Prelude.{◌≡◌, ◌≤◌, [], ◌∷◌, ◌++◌, OnOk, OnErr};
+ghost use Rattle.clone_values.specs.Limits.{IsWithinLimit};
+ghost use Rattle.value_bytes.specs.Spelling.{count_bytes, number_bytes, string_bytes};
+ghost use Rattle.value_bytes.specs.Writing.{BeginsWith};
+
+use clone_values::NoMemory;
+
+pub(crate) fn put_byte(out: &mut Vec<u8>, byte: u8) -> Result<(), NoMemory>
+    ensures written { OnOk result (out.new.items ≡ out.old.items ++ byte ∷ []) }
+    ensures front { OnErr result (BeginsWith out.old.items out.new.items) }
+{
+    out.push(byte)?;
+    Ok(())
+}
+
+pub(crate) fn put_count(out: &mut Vec<u8>, count: usize) -> Result<(), NoMemory>
+    requires { count ≤ 4294967295 }
+    ensures written { OnOk result (out.new.items ≡ out.old.items ++ count_bytes count) }
+    ensures front { OnErr result (BeginsWith out.old.items out.new.items) }
+{
+    out.extend_from_slice(&(count as u32).to_be_bytes())?;
+    Ok(())
+}
+
+pub(crate) fn put_number(out: &mut Vec<u8>, number: i64) -> Result<(), NoMemory>
+    ensures written { OnOk result (out.new.items ≡ out.old.items ++ number_bytes number) }
+    ensures front { OnErr result (BeginsWith out.old.items out.new.items) }
+{
+    out.extend_from_slice(&number.to_be_bytes())?;
+    Ok(())
+}
+
+pub(crate) fn put_string(out: &mut Vec<u8>, string: &[u8]) -> Result<(), NoMemory>
+    requires { IsWithinLimit string.now }
+    ensures written { OnOk result (out.new.items ≡ out.old.items ++ string_bytes string.now) }
+    ensures front { OnErr result (BeginsWith out.old.items out.new.items) }
+{
+    put_count(out, string.len())?;
+    out.extend_from_slice(string)?;
+    Ok(())
+}

@@ -1,0 +1,165 @@
+// Values, read from their bytes.
+ghost use Rattle.std.specs.Prelude.{ℕ, IfOk, IsErrOf};
+ghost use Rattle.clone_values.specs.Tree.{Tree};
+ghost use Rattle.clone_values.specs.View.{tree_of, prop_of, pair_of};
+ghost use Rattle.value_bytes.specs.Spelling.{ValueStands};
+ghost use Rattle.value_bytes.specs.Steps.{Gives, text_at, pair_at, counted_at};
+ghost use Rattle.value_bytes.specs.declared.kinds.Kind.TheVariants as kind;
+ghost use Rattle.value_bytes.specs.Reading.{value_at, body_at, properties_at};
+
+use crate::fields::{ReadError, byte_from, bytes_from, count_from, date_from, int_from, text_from};
+use crate::kinds::{Kind, kind_of};
+use crate::names::{are_array_names, names_rise};
+use clone_values::{Items, Pair, Pairs, Prop, Props, Value};
+use std::alloc::Global;
+use value_members::{are_once, keys_are_once};
+
+/// The greatest depth of a value, and of a key.
+pub(crate) const DEPTH: u32 = 100;
+
+/// The value whose spelling stands in the bytes from this place on, counted from 0, and the place behind it. Bytes may
+/// follow it; past the end of the bytes no spelling stands. How much memory is asked for depends on the bytes that are
+/// there, and not on a count that they state.
+pub fn read_value(alloc: Global, bytes: &[u8], from: usize) -> Result<(Value, usize), ReadError>
+    ensures found { IfOk result (λ r. ValueStands bytes.now from r.1 (tree_of r.0)) }
+    ensures refused { IsErrOf result ReadError.NotInGrammar → (t : Tree) (end : ℕ) → ¬ (ValueStands bytes.now from end t) }
+{
+    if from > bytes.len() {
+        return Err(ReadError::NotInGrammar);
+    }
+    let (_, mut rest) = bytes.split_at(from);
+    let value = value_from(alloc, &mut rest, DEPTH)?;
+    Ok((value, bytes.len() - rest.len()))
+}
+
+#[cycle(read)]
+fn value_from(alloc: Global, rest: &mut &[u8], depth: u32) -> Result<Value, ReadError>
+    ensures { Gives (λ v. (tree_of v, rest.new.now)) result (value_at depth rest.old.now) }
+{
+    if depth == 0 {
+        return Err(ReadError::NotInGrammar);
+    }
+    let byte = byte_from(rest)?;
+    match kind_of(byte) {
+        Some(kind) => body_from(alloc, rest, kind, depth - 1),
+        None => Err(ReadError::NotInGrammar),
+    }
+}
+
+#[cycle(read)]
+fn body_from(alloc: Global, rest: &mut &[u8], kind: Kind, depth: u32) -> Result<Value, ReadError>
+    ensures { Gives (λ v. (tree_of v, rest.new.now)) result (body_at (value_at depth) kind rest.old.now) }
+{
+    match kind {
+        Kind::Undefined => Ok(Value::Undefined),
+        Kind::Null => Ok(Value::Null),
+        Kind::False => Ok(Value::Bool(false)),
+        Kind::True => Ok(Value::Bool(true)),
+        Kind::Int => Ok(Value::Int(int_from(rest)?)),
+        Kind::Text => Ok(Value::Text(text_from(alloc, rest)?)),
+        Kind::Date => Ok(Value::Date(date_from(rest)?)),
+        Kind::Bytes => Ok(Value::Bytes(bytes_from(alloc, rest)?)),
+        Kind::Array => array_from(alloc, rest, depth),
+        Kind::Object => Ok(Value::Object(props_from(alloc, rest, depth)?)),
+        Kind::Map => map_from(alloc, rest, depth),
+        Kind::Set => set_from(alloc, rest, depth),
+    }
+}
+
+#[cycle(read)]
+fn items_from(alloc: Global, rest: &mut &[u8], depth: u32) -> Result<Items, ReadError>
+    ensures { Gives (λ x. (x, rest.new.now)) result (counted_at (value_at depth) rest.old.now) }
+{
+    let count = count_from(rest)?;
+    let mut items = Vec::new(alloc);
+    for _ in 0..count {
+        let item = value_from(alloc, rest, depth)?;
+        items.push(item)?;
+    }
+    Ok(Items::from_vec(items))
+}
+
+#[cycle(read)]
+fn set_from(alloc: Global, rest: &mut &[u8], depth: u32) -> Result<Value, ReadError>
+    ensures { Gives (λ v. (tree_of v, rest.new.now)) result (body_at (value_at depth) kind.Set rest.old.now) }
+{
+    let items = items_from(alloc, rest, depth)?;
+    if are_once(alloc, &items)? {
+        Ok(Value::Set(items))
+    } else {
+        Err(ReadError::NotInGrammar)
+    }
+}
+
+#[cycle(read)]
+fn array_from(alloc: Global, rest: &mut &[u8], depth: u32) -> Result<Value, ReadError>
+    ensures { Gives (λ v. (tree_of v, rest.new.now)) result (body_at (value_at depth) kind.Array rest.old.now) }
+{
+    let items = items_from(alloc, rest, depth)?;
+    let props = props_from(alloc, rest, depth)?;
+    if are_array_names(&props) {
+        Ok(Value::Array(items, props))
+    } else {
+        Err(ReadError::NotInGrammar)
+    }
+}
+
+#[cycle(read)]
+fn map_from(alloc: Global, rest: &mut &[u8], depth: u32) -> Result<Value, ReadError>
+    ensures { Gives (λ v. (tree_of v, rest.new.now)) result (body_at (value_at depth) kind.Map rest.old.now) }
+{
+    let pairs = pairs_from(alloc, rest, depth)?;
+    if keys_are_once(alloc, &pairs)? {
+        Ok(Value::Map(pairs))
+    } else {
+        Err(ReadError::NotInGrammar)
+    }
+}
+
+#[cycle(read)]
+fn pairs_from(alloc: Global, rest: &mut &[u8], depth: u32) -> Result<Pairs, ReadError>
+    ensures { Gives (λ x. (x, rest.new.now)) result (counted_at (pair_at (value_at depth) (value_at depth)) rest.old.now) }
+{
+    let count = count_from(rest)?;
+    let mut pairs = Vec::new(alloc);
+    for _ in 0..count {
+        let pair = pair_from(alloc, rest, depth)?;
+        pairs.push(pair)?;
+    }
+    Ok(Pairs::from_vec(pairs))
+}
+
+#[cycle(read)]
+fn pair_from(alloc: Global, rest: &mut &[u8], depth: u32) -> Result<Pair, ReadError>
+    ensures { Gives (λ p. (pair_of p, rest.new.now)) result (pair_at (value_at depth) (value_at depth) rest.old.now) }
+{
+    let key = value_from(alloc, rest, depth)?;
+    let value = value_from(alloc, rest, depth)?;
+    Ok(Pair { key, value })
+}
+
+#[cycle(read)]
+fn props_from(alloc: Global, rest: &mut &[u8], depth: u32) -> Result<Props, ReadError>
+    ensures { Gives (λ x. (x, rest.new.now)) result (properties_at (value_at depth) rest.old.now) }
+{
+    let count = count_from(rest)?;
+    let mut props = Vec::new(alloc);
+    for _ in 0..count {
+        let prop = prop_from(alloc, rest, depth)?;
+        props.push(prop)?;
+    }
+    if names_rise(&props) {
+        Ok(Props::from_vec(props))
+    } else {
+        Err(ReadError::NotInGrammar)
+    }
+}
+
+#[cycle(read)]
+fn prop_from(alloc: Global, rest: &mut &[u8], depth: u32) -> Result<Prop, ReadError>
+    ensures { Gives (λ p. (prop_of p, rest.new.now)) result (pair_at text_at (value_at depth) rest.old.now) }
+{
+    let name = text_from(alloc, rest)?;
+    let value = value_from(alloc, rest, depth)?;
+    Ok(Prop { name, value })
+}
