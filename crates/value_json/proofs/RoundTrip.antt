@@ -1,25 +1,23 @@
 -- The document of a well formed value reads as the value.
-use Rattle.std.proofs.Common.{◌≡◌, ℕ, zero, suc, ◌+◌, ◌<◌, ◌≤◌, ◌^◌, Bool, true, false, not, ◌&&◌, ◌||◌, cond, if◌then◌else◌, ℤ, pos, negsuc, List, [], ◌∷◌, ◌++◌, map, length, slice_index, Option, Some, None, option_map, option_and_then, Result, Ok, refl, sym, ◌∙◌, ap, arith, nat_lt, nat_le, codes, append_assoc, append-nil}
+use Rattle.std.proofs.Common.{◌≡◌, ℕ, zero, suc, ◌<◌, ◌≤◌, ◌^◌, Bool, true, false, ◌&&◌, ◌||◌, cond, if◌then◌else◌, ℤ, pos, negsuc, List, [], ◌∷◌, ◌++◌, map, length, Option, Some, None, option_map, option_and_then, refl, sym, ◌∙◌, ap, arith, nat_lt, nat_le, codes, append_assoc, append-nil}
 use Rattle.std.specs.declared.cmp.Ordering.TheVariants.{Less, Equal, Greater}
-use Rattle.std.specs.Ordering.{nat_cmp, int_cmp, is_le, match_ordering}
+use Rattle.std.specs.Ordering.{int_cmp, is_le, match_ordering}
 use Rattle.std.specs.Cmp.{first_so, second_so}
-use Rattle.std.specs.Cmp.Lexicographic.{slice_cmp}
 use Rattle.std.specs.List.{list_all}
 use Rattle.std.proofs.lemmas.Bool.{ltb-true, leb-false, lt-ltb}
-use Rattle.std.proofs.lemmas.List.{map-append}
 use Rattle.clone_values.specs.Tree.{Tree, Trees, Members, PairTrees, undefined, null, boolean, int, text, date, bytes, array, object, map_object, set_object, function, no_trees, tree_more, no_members, member_more, no_pairs, pair_more, trees_of, members_of, pairs_of, list_of_trees, list_of_members, list_of_pairs}
 use Rattle.clone_values.specs.Names.{names_of, is_rising}
-use Rattle.clone_values.specs.WellFormed.{is_value, IsValue, are_values, member_values, pair_values, are_once, is_int, is_date, is_within_limit, is_array_name, are_properties}
+use Rattle.clone_values.specs.WellFormed.{is_value, are_values, member_values, pair_values, are_once, is_int, is_date, is_within_limit, is_array_name, are_properties}
 use Rattle.serde_json.specs.Data.{Data, put}
 use Rattle.serde_json.specs.Data as json
 use Rattle.serde_json.specs.Events.{items_len, members_len}
-use Rattle.serde_json.specs.Find.{as_i64, of_integer}
+use Rattle.serde_json.specs.Find.{of_integer}
 use Rattle.serde_json.specs.View.{items_of}
-use Rattle.hex.specs.Hex.{IsBytes, decode_of, encode_lower}
+use Rattle.hex.specs.Hex.{IsBytes}
 use Rattle.hex.proofs.HexLemmas.{decode_of-encode_lower}
 use Rattle.value_json.specs.Marks.{begins_marked, any_marked}
-use Rattle.value_json.specs.Reading.{given, int_in, date_in, text_in, decoded, short_list, plain_array, plain_object, full_array, set_of, map_of, properties_of, with_names, named_in, tree_in, object_in, trees_in, pairs_in, pair_in, members_in}
-use Rattle.value_json.specs.Writing.{json_of, items_json, pairs_json, named_json, members_json, any_marked_name, list_data, array_data, pair_data, marked}
+use Rattle.value_json.specs.Reading.{given, int_in, date_in, text_in, decoded, short_list, plain_array, plain_object, full_array, set_of, map_of, properties_of, with_names, named_in, tree_in, object_in, trees_in, pairs_in, members_in}
+use Rattle.value_json.specs.Writing.{json_of, items_json, pairs_json, named_json, members_json, any_marked_name, list_data, marked}
 use Rattle.value_json.specs.Laws.{holds_bytes, trees_hold_bytes, members_hold_bytes, pairs_hold_bytes, ReadsBack}
 use Rattle.value_json.proofs.Folds.{set_same, map_same, properties_same, names_same, texted, may_stand, above, less_rising}
 

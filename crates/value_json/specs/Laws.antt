@@ -1,7 +1,7 @@
 -- That what is written reads back.
 --     holds_bytes           each element of a byte string is below 256, as in every value of the program
 --     ReadsBack             the value's document reads as the value
-use Rattle.std.specs.Prelude.{◌≡◌, ℕ, Bool, true, ◌&&◌, nat_lt, List, Some}
+use Rattle.std.specs.Prelude.{◌≡◌, Bool, true, ◌&&◌, nat_lt, Some}
 use Rattle.std.specs.List.{list_all}
 use Rattle.clone_values.specs.Tree.{Tree, Trees, Members, PairTrees, bytes, array, object, map_object, set_object, no_trees, tree_more, no_members, member_more, no_pairs, pair_more}
 use Rattle.value_json.specs.Reading.{tree_in}
