@@ -21,11 +21,11 @@ pub both_so : (a b : Bool) → a ≡ true → b ≡ true → (a && b) ≡ true
 both_so a b e f = rw e f
 
 -- ---- members put once
-neither : (a b : Bool) → (a || b) ≡ false → (a ≡ false) × (b ≡ false)
+pub neither : (a b : Bool) → (a || b) ≡ false → (a ≡ false) × (b ≡ false)
 neither true b e = absurd (true≢false e)
 neither false b e = (refl, e)
 
-alone_and : (a b : Bool) → (not a && b) ≡ true → (a ≡ false) × (b ≡ true)
+pub alone_and : (a b : Bool) → (not a && b) ≡ true → (a ≡ false) × (b ≡ true)
 alone_and true b e = absurd (true≢false (sym e))
 alone_and false b e = (refl, e)
 

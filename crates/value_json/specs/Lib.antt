@@ -2,3 +2,4 @@ pub mod Marks
 pub mod Reading
 pub mod Gives
 pub mod Writing
+pub mod Laws

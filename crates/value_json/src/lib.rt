@@ -5,6 +5,7 @@
 
 mod building;
 mod error;
+mod laws;
 mod marks;
 mod parts;
 mod reading;
@@ -13,5 +14,6 @@ mod tests;
 mod writing;
 
 pub use error::JsonError;
+pub use laws::json_laws;
 pub use reading::value_from_json;
 pub use writing::{key_to_json, value_to_json};
