@@ -201,33 +201,73 @@ fn replaced(props: &mut Props, place: usize, value: Value) -> Option<Value> {
     }
 }
 
+fn items_again(alloc: Global) -> Result<Items, Fail> {
+    let items = Items::from_vec(vec![in alloc; Value::Null, Value::Int(1)]?);
+    Ok(Items::from_vec(items.into_vec()))
+}
+
+fn props_again(alloc: Global) -> Result<Props, Fail> {
+    let mut props = Props::new(alloc);
+    props.set(text(alloc, "b")?, Value::Int(2))?;
+    Ok(Props::from_vec(props.into_vec()))
+}
+
+fn pairs_again(alloc: Global) -> Result<Pairs, Fail> {
+    let pairs = Pairs::from_vec(vec![in alloc;
+        Pair {
+            key: Value::Null,
+            value: Value::Int(3)
+        },
+    ]?);
+    Ok(Pairs::from_vec(pairs.into_vec()))
+}
+
+fn keys_again(alloc: Global) -> Result<Keys, Fail> {
+    let keys = Keys::from_vec(vec![in alloc; Key::Number(4)]?);
+    Ok(Keys::from_vec(keys.into_vec()))
+}
+
+fn texts_again(alloc: Global) -> Result<Texts, Fail> {
+    let texts = Texts::from_vec(vec![in alloc; text(alloc, "grün")?]?);
+    Ok(Texts::from_vec(texts.into_vec()))
+}
+
+fn bytes_again(alloc: Global) -> Result<Bytes, Fail> {
+    let bytes = Bytes::from_vec(vec![in alloc; 7, 8]?);
+    Ok(Bytes::from_vec(bytes.into_vec()))
+}
+
+fn numbers_again(alloc: Global) -> Result<Numbers, Fail> {
+    let numbers = Numbers::from_vec(vec![in alloc; 9]?);
+    Ok(Numbers::from_vec(numbers.into_vec()))
+}
+
+fn string_of(alloc: Global, s: &str) -> Result<String, Fail> {
+    Ok(text(alloc, s)?.into_string())
+}
+
 /// Each list is made of a vector, and gives it back.
 #[test]
 fn lists_come_from_vectors_and_go_back(rt: HostRuntime) -> Result<(), Fail> {
-    let alloc = rt.alloc();
-    let mut props = Props::new(alloc);
-    props.set(text(alloc, "b")?, Value::Null)?;
-    let mut pairs = Pairs::new(alloc);
-    pairs.put(Value::Null, Value::Int(1))?;
-    assert_eq!(rt; Props::from_vec(props.into_vec()).len(), 1);
-    assert_eq!(rt; Pairs::from_vec(pairs.into_vec()).into_vec().len(), 1);
-    let items = Items::from_vec(vec![in alloc; Value::Null, Value::Int(1)]?);
-    assert!(rt; matches!(items.at(1), Some(Value::Int(1))));
-    assert_eq!(rt; items.into_vec().len(), 2);
-    let keys = Keys::from_vec(vec![in alloc; Key::Number(1)]?);
-    assert_eq!(rt; keys.into_vec().len(), 1);
-    let texts = Texts::from_vec(vec![in alloc; text(alloc, "a")?]?);
-    assert_eq!(rt; texts.at(0).map(|t| t.as_str().len()), Some(1));
-    assert_eq!(rt; texts.into_vec().len(), 1);
-    assert_eq!(rt;
-        Bytes::from_vec(vec![in alloc; 7, 8]?).into_vec().as_slice(),
-        [7, 8].as_slice()
+    assert!(rt; matches!(items_again(rt.alloc())?.at(1), Some(Value::Int(1))));
+    assert!(rt; matches!(props_again(rt.alloc())?.find("b"), Some(Value::Int(2))));
+    assert!(rt;
+        matches!(
+            pairs_again(rt.alloc())?.at(0),
+            Some(Pair {
+                key: Value::Null,
+                value: Value::Int(3)
+            })
+        )
     );
+    assert!(rt; matches!(keys_again(rt.alloc())?.at(0), Some(Key::Number(4))));
     assert_eq!(rt;
-        Numbers::from_vec(vec![in alloc; 9]?).into_vec().as_slice(),
-        [9].as_slice()
+        texts_again(rt.alloc())?.at(0).map(|t| t.as_str().len()),
+        Some(5)
     );
-    assert_eq!(rt; text(alloc, "grün")?.into_string().as_str(), "grün");
+    assert_eq!(rt; bytes_again(rt.alloc())?.as_slice(), [7, 8].as_slice());
+    assert_eq!(rt; numbers_again(rt.alloc())?.at(0).copied(), Some(9));
+    assert_eq!(rt; string_of(rt.alloc(), "grün")?.as_str(), "grün");
     Ok(())
 }
 
