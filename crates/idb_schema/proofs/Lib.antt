@@ -1,0 +1,12 @@
+pub mod All
+pub mod NumberLaws
+pub mod NameOrder
+pub mod NamePlaces
+pub mod EntryLaws
+pub mod Named
+pub mod IdLaws
+pub mod NameLaws
+pub mod PlaceLaws
+pub mod DefinitionLaws
+pub mod Pushes
+pub mod GivenLaws

@@ -1,0 +1,4 @@
+pub mod Taken
+pub mod Rows
+pub mod Unique
+pub mod UniqueLaws

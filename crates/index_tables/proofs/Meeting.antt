@@ -1,0 +1,119 @@
+-- Bounds and the rows of a table, which stand in order.
+--     rows_rise           what stands behind a row that meets a lower bound meets it too
+--     had, not_had        whether a row has a key, by the first row whose key is not below it
+use Rattle.std.proofs.Common.{◌≡◌, ℕ, zero, suc, ◌+◌, ◌*◌, ◌<◌, ◌≤◌, Bool, true, false, List, [], ◌∷◌, refl, sym, ap, ◌∙◌, Option, Some, None, map, length, arith}
+use Rattle.std.specs.Prelude.{slice_get, ◌||◌}
+use Rattle.std.specs.declared.cmp.Ordering.{Ordering}
+use Rattle.std.specs.declared.cmp.Ordering.TheVariants.{Less, Equal, Greater}
+use Rattle.std.specs.Ordering.{is_eq, eq_by_cmp, ordering_then}
+use Rattle.std.specs.List.{list_any}
+use Rattle.std.proofs.lemmas.Option.{slice_get_within}
+use Rattle.clone_values.specs.KeyTree.{KeyTree}
+use Rattle.key_order.specs.KeyOrder.{key_cmp}
+use Rattle.key_order.proofs.KeyLaws.{key_cmp_total, key_cmp_same}
+use Rattle.idb_keys.specs.KeyRange.{Bound, bound_at, admits}
+use Rattle.index_tables.specs.Rows.{RowTree, RowSet, row_cmp, row_meets, rows_of, count_of}
+use Rattle.index_tables.specs.View.{row_entry, row_set, rows_in}
+use Rattle.index_tables.specs.Halves.{IsSplitAt}
+use Rattle.index_tables.proofs.RowLaws.{rising_keys}
+use Rattle.index_tables.proofs.Halving.{Rises}
+use Rattle.index_tables.proofs.TableRows.{Entries, InOrder, rows_in_order, first_of_each, past_end, rows_of_set, count_of_set}
+
+-- ---- the rows of a table rise
+rising : (es : Entries) (i j : ℕ) (r s : RowTree) → InOrder es → i < j → slice_get (rows_in es) i ≡ Some r → slice_get (rows_in es) j ≡ Some s → row_cmp r s ≡ Less
+rising es i j r s h lt a b = rising_keys (map row_entry es) (rows_in_order es h) i j r s lt (rw (first_of_each es) a) (rw (first_of_each es) b)
+
+-- ---- a lower bound is met by what stands behind
+admitted : (is_open : Bool) (o : Ordering) → o ≡ Less → admits is_open o ≡ true
+admitted is_open o e = ap (λ p. admits is_open p) e
+
+above_met : (is_open : Bool) (o : Ordering) (k a b : KeyTree) → key_cmp k a ≡ o → admits is_open o ≡ true → key_cmp a b ≡ Less → admits is_open (key_cmp k b) ≡ true
+above_met is_open Less k a b e met lt = admitted is_open _ (key_cmp_total.trans k a b e lt)
+above_met is_open Equal k a b e met lt = admitted is_open _ (key_cmp_total.congr k a b e ∙ lt)
+above_met is_open Greater k a b e met lt = cc
+
+meets_on : (lower : Option Bound) (o p : Ordering) (r s : RowTree) → key_cmp r.0 s.0 ≡ o → ordering_then o p ≡ Less → row_meets lower r ≡ true → row_meets lower s ≡ true
+meets_on None o p r s e lt met = refl
+meets_on (Some bound) Less p r s e lt met = above_met bound.is_open (key_cmp bound.key r.0) bound.key r.0 s.0 refl met e
+meets_on (Some bound) Equal p r s e lt met = ap (λ k. row_meets (Some bound) (k, s.1)) (sym (key_cmp_same r.0 s.0 e)) ∙ met
+meets_on (Some bound) Greater p r s e lt met = cc
+
+pub rows_rise : (lower : Option Bound) (es : Entries) → InOrder es → Rises (row_meets lower) (rows_in es)
+rows_rise lower es h = record { later = λ i j r s lt a b met. meets_on lower (key_cmp r.0 s.0) (key_cmp r.1 s.1) r s refl (rising es i j r s h lt a b) met }
+
+-- ---- the place of the first row that meets it
+each_meets_none : (rows : List RowTree) → IsSplitAt (row_meets None) rows 0
+each_meets_none rows = record { ordered = omega arith; within = omega arith; before = λ i r lt at. absurd (omega arith); behind = λ i r le at. refl }
+
+pub split_shown : (asked lower : Option Bound) (es : Entries) (rows : RowSet) (place : ℕ) → asked ≡ lower → row_set es ≡ rows → InOrder es → IsSplitAt (row_meets lower) (rows_in es) place
+    → IsSplitAt (row_meets asked) (rows_of rows) place
+split_shown asked lower es rows place ask seen h s = rw (ask, ← seen, rows_of_set es h) s
+
+pub cost_shown : (es : Entries) (rows : RowSet) (power : ℕ) → row_set es ≡ rows → InOrder es → power ≤ 2 * length es + 1 → power ≤ 2 * count_of rows + 1
+cost_shown es rows power seen h cost = rw (← seen, count_of_set es h) cost
+
+pub unbounded_shown : (asked : Option Bound) (rows : RowSet) → asked ≡ None → IsSplitAt (row_meets asked) (rows_of rows) 0
+unbounded_shown asked rows ask = rw ask (each_meets_none (rows_of rows))
+
+-- ---- whether a row has a key
+either : (a b : Bool) → b ≡ true → (a || b) ≡ true
+either true b e = refl
+either false b e = e
+
+-- how one place stands to another
+data Sides (i j : ℕ) : Type 0 where
+  less_than : i < j → Sides i j
+  same : i ≡ j → Sides i j
+  more_than : j < i → Sides i j
+
+sides : (i j : ℕ) → Sides i j
+sides zero zero = same refl
+sides zero (suc j) = less_than (omega arith)
+sides (suc i) zero = more_than (omega arith)
+sides (suc i) (suc j) = elim (sides i j) [ less_than h ↦ less_than (omega arith) | same e ↦ same (ap suc e) | more_than h ↦ more_than (omega arith) ]
+
+module _ {A : Type 0} (test : A → Bool) where
+  any_at : (xs : List A) (i : ℕ) (x : A) → slice_get xs i ≡ Some x → test x ≡ true → list_any test xs ≡ true
+  any_at [] i x at e = cc
+  any_at (y ∷ xs) zero x at e = let same : y ≡ x = cc in ap (λ b. b || list_any test xs) (ap test same ∙ e)
+  any_at (y ∷ xs) (suc i) x at e = either (test y) (list_any test xs) (any_at xs i x at e)
+
+  none_of : (xs : List A) → ((i : ℕ) (x : A) → slice_get xs i ≡ Some x → test x ≡ false) → list_any test xs ≡ false
+  none_of [] h = refl
+  none_of (y ∷ xs) h = ap (λ b. b || list_any test xs) (h 0 y refl) ∙ none_of xs (λ i x at. h (suc i) x at)
+
+-- a key below which the bound is not met is none of these, and one above it neither
+left_out : (o : Ordering) → admits false o ≡ false → is_eq o ≡ false
+left_out Less e = cc
+left_out Equal e = cc
+left_out Greater e = refl
+
+passed : (o : Ordering) → admits true o ≡ true → is_eq o ≡ false
+passed Less e = refl
+passed Equal e = cc
+passed Greater e = cc
+
+strictly : (o : Ordering) → admits false o ≡ true → is_eq o ≡ false → admits true o ≡ true
+strictly Less e n = refl
+strictly Equal e n = cc
+strictly Greater e n = cc
+
+abbrev pub has : KeyTree → RowTree → Bool
+has k r = eq_by_cmp key_cmp k r.0
+
+pub not_had : (k : KeyTree) (rows : List RowTree) (place : ℕ) → IsSplitAt (row_meets (Some (bound_at k false))) rows place → None ≡ slice_get rows place → list_any (has k) rows ≡ false
+not_had k rows place s past = none_of (has k) rows (λ i r at. left_out (key_cmp k r.0) (s.before i r (omega (arith, past_end rows place past, slice_get_within rows i r at)) at))
+
+behind_not : (k : KeyTree) (rows : List RowTree) (place : ℕ) (r : RowTree) → Rises (row_meets (Some (bound_at k true))) rows → IsSplitAt (row_meets (Some (bound_at k false))) rows place
+    → slice_get rows place ≡ Some r → has k r ≡ false → (i : ℕ) (x : RowTree) → slice_get rows i ≡ Some x → has k x ≡ false
+behind_not k rows place r rises s at other i x there =
+    elim (sides i place) [
+      | less_than lt ↦ left_out (key_cmp k x.0) (s.before i x lt there)
+      | same e ↦ (let one : x ≡ r = (let here : slice_get rows i ≡ Some r = ap (λ j. slice_get rows j) e ∙ at in cc) in ap (λ y. has k y) one ∙ other)
+      | more_than gt ↦ passed (key_cmp k x.0) (rises.later place i r x gt at there (strictly (key_cmp k r.0) (s.behind place r (omega arith) at) other))
+    ]
+
+pub had : (k : KeyTree) (rows : List RowTree) (place : ℕ) (r : RowTree) (b : Bool) → Rises (row_meets (Some (bound_at k true))) rows → IsSplitAt (row_meets (Some (bound_at k false))) rows place
+    → Some r ≡ slice_get rows place → b ≡ has k r → list_any (has k) rows ≡ b
+had k rows place r true rises s at e = any_at (has k) rows place r (sym at) (sym e)
+had k rows place r false rises s at e = none_of (has k) rows (behind_not k rows place r rises s (sym at) (sym e))

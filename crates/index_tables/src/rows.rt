@@ -1,0 +1,133 @@
+// Rows and their list. Contracts see a row as its two key trees, and a list as the list of these.
+ghost use Rattle.std.specs.Prelude.{◌≡◌, ◌≤◌, [], ◌∷◌, ◌++◌, length, map, slice_get, option_map, IfOk, IfSome, IfNone, OnOk, OnErr};
+ghost use Rattle.std.specs.Option.{option_copied};
+ghost use Rattle.clone_values.specs.Limits.{HasRoom, StandsAt};
+ghost use Rattle.index_tables.specs.View.{row_of};
+ghost use Rattle.index_tables.specs.Orders.{by_row_order, by_row_order_total, by_row_order_same};
+
+use clone_values::{Key, NoMemory};
+use key_order::compare;
+use sorted_table::Ordered;
+use std::alloc::Global;
+use std::cmp::Ordering;
+use std::marker::Model;
+
+/// A row of an index (Indexed Database API 3.0, 2.6, "list of records").
+#[derive(Drop)]
+pub struct Row {
+    /// The index key.
+    pub key: Key,
+    /// The key of the record that the row leads to.
+    pub primary: Key,
+}
+
+impl Row {
+    /// An equal row.
+    pub fn copy(&self, alloc: Global) -> Result<Row, NoMemory>
+        ensures { IfOk result (λ r. r ≡ self.now) }
+    {
+        Ok(Row {
+            key: self.key.copy(alloc)?,
+            primary: self.primary.copy(alloc)?,
+        })
+    }
+}
+
+impl Ordered for Row {
+    ghost order = { by_row_order };
+
+    fn order(&self, other: &Row) -> Ordering {
+        match compare(&self.key, &other.key) {
+            Ordering::Equal => compare(&self.primary, &other.primary),
+            decided => decided,
+        }
+    }
+
+    ghost total = { by_row_order_total };
+
+    ghost same = { by_row_order_same };
+}
+
+/// A list of rows.
+#[derive(Drop)]
+pub struct Rows {
+    rows: Vec<Row>,
+}
+
+impl Model for Rows {
+    ghost use Rattle.std.specs.Prelude.{List, map};
+    ghost use Rattle.std.specs.Coded.{coded_list};
+    ghost use Rattle.index_tables.specs.Rows.{RowTree, row_code};
+
+    ghost Value = { List RowTree };
+
+    ghost coded = { coded_list row_code };
+
+    ghost use Rattle.index_tables.specs.View.{row_of};
+
+    ghost view = { λ a. map row_of a.rows.items };
+}
+
+impl Rows {
+    /// The empty list; it takes no memory.
+    pub fn new(alloc: Global) -> Self
+        ensures { result ≡ [] }
+    {
+        Rows {
+            rows: Vec::new(alloc),
+        }
+    }
+
+    /// How many rows there are.
+    pub fn len(&self) -> usize
+        ensures { result ≡ length self.now }
+    {
+        self.rows.len()
+    }
+
+    /// The row at this place, counted from 0; `None` past the end.
+    pub fn at(&self, place: usize) -> Option<&Row>
+        ensures item { option_map row_of (option_copied result) ≡ slice_get self.now place }
+        ensures stands { IfSome result (λ x. StandsAt self.now place (row_of x.now)) }
+        ensures past_end { IfNone result (length self.now ≤ place) }
+    {
+        self.rows.get(place)
+    }
+
+    /// Puts a row at the end.
+    pub fn push(&mut self, item: Row) -> Result<(), NoMemory>
+        requires { HasRoom self.old }
+        ensures stored { OnOk result (self.new ≡ self.old ++ row_of item ∷ []) }
+        ensures unchanged { OnErr result (self.new ≡ self.old) }
+    {
+        self.rows.push(item)?;
+        Ok(())
+    }
+
+    /// The rows of a vector, in order. It takes no memory.
+    pub fn from_vec(rows: Vec<Row>) -> Rows
+        ensures { result ≡ map row_of rows.items }
+    {
+        Rows { rows }
+    }
+
+    /// The rows as a vector, in order. It takes no memory.
+    pub fn into_vec(self) -> Vec<Row>
+        ensures { map row_of result.items ≡ self }
+    {
+        self.rows
+    }
+
+    /// An equal list.
+    pub fn copy(&self, alloc: Global) -> Result<Rows, NoMemory>
+        ensures { IfOk result (λ r. r ≡ self.now) }
+    {
+        let mut copies = Rows::new(alloc);
+        for place in 0..self.len() {
+            if let Some(row) = self.at(place) {
+                copies.rows.push(row.copy(alloc)?)?;
+            }
+        }
+        Ok(copies)
+    }
+}

@@ -1,0 +1,20 @@
+-- Lists that a loop goes through place by place.
+--     mapped_more, rows_more        what stands at the next place comes to the end
+use Rattle.std.proofs.Common.{◌≡◌, ℕ, zero, suc, ◌+◌, List, [], ◌∷◌, ◌++◌, ap, ◌∙◌, Some, map, take, add-one}
+use Rattle.std.proofs.lemmas.List.{map-append}
+use Rattle.std.specs.Prelude.{slice_get}
+use Rattle.clone_values.specs.KeyTree.{KeyTree}
+use Rattle.index_tables.specs.declared.rows.Row.{Row}
+use Rattle.index_tables.specs.View.{row_of}
+
+mapped_next : {A B : Type 0} (f : A → B) (xs : List A) (i : ℕ) (x : A) → Some x ≡ slice_get xs i → map f (take i xs) ++ f x ∷ [] ≡ map f (take (suc i) xs)
+mapped_next f [] i x e = cc
+mapped_next f (y ∷ xs) zero x e = let same : x ≡ y = cc in ap (λ z. f z ∷ []) same
+mapped_next f (y ∷ xs) (suc i) x e = ap (λ zs. f y ∷ zs) (mapped_next f xs i x e)
+
+pub mapped_more : {A B : Type 0} (f : A → B) (xs : List A) (i : ℕ) (x : A) → Some x ≡ slice_get xs i → map f (take i xs) ++ f x ∷ [] ≡ map f (take (i + 1) xs)
+mapped_more f xs i x e = rw add-one (mapped_next f xs i x e)
+
+-- the same of rows made of keys
+pub rows_more : (rows : List Row) (row : Row) (ks : List KeyTree) (i : ℕ) (k p : KeyTree) → map row_of rows ≡ map (λ j. (j, p)) (take i ks) → Some k ≡ slice_get ks i → row_of row ≡ (k, p) → map row_of (rows ++ row ∷ []) ≡ map (λ j. (j, p)) (take (i + 1) ks)
+rows_more rows row ks i k p so at is = map-append row_of rows (row ∷ []) ∙ (λ j. so j ++ is j ∷ []) ∙ mapped_more (λ j. (j, p)) ks i k at

@@ -1,0 +1,38 @@
+use Rattle.std.proofs.Common.{◌<◌, length, get_or, refl, ◌∙◌, sym, arith}
+use Rattle.std.proofs.lemmas.Option.{slice_get-get_or}
+use Rattle.indexed_records.specs.Walks.{Adds, CanAdd}
+use Rattle.indexed_records.proofs.Walks.{walked_get, walked_on, walked_all, all_at, all_counted, next_at, next_left, none_next}
+use Rattle.indexed_records.proofs.growing.add_in.Goals as goal
+use Rattle.indexed_records.proofs.growing.add_in.Goals.{in-Some, in_default}
+
+pub loop-table-init : goal.loop-table-init
+loop-table-init g c = record { left = c.into_iter-lists.ensures.rest; walked = refl }
+
+can_add : (g : _) (c : goal.In-Some g) → CanAdd c.in-Some.list (get_or c.loop-table.tables c.loop-table.table-index c.table-item.result) (get_or c.loop-table.tables c.loop-table.table-index c.table-item.result)
+can_add g c =
+    let lt : c.loop-table.table-index < length c.loop-table.tables = omega (arith, c.loop-table.auto.tables, c.loop-table-test.true) in
+    let there = sym (walked_get Adds _ _ _ _ c.loop-table.invariant.walked) ∙ slice_get-get_or c.loop-table.tables c.loop-table.table-index c.table-item.result lt in
+    all_at CanAdd _ _ _ c.loop-table.table-index _ _ _ c.requires (next_at _ c.loop-table.table-index _ _ _ c.loop-table.invariant.left c.in-Some.ensures.items) there there
+
+pub add_rows-requires-clause-room : goal.add_rows-requires-clause-room
+add_rows-requires-clause-room g c = (can_add g c).0
+
+pub add_rows-requires-clause-absent : goal.add_rows-requires-clause-absent
+add_rows-requires-clause-absent g c = (can_add g c).1
+
+pub add_rows-requires-clause-once : goal.add_rows-requires-clause-once
+add_rows-requires-clause-once g c = (can_add g c).2
+
+pub loop-table-preserved : goal.loop-table-preserved
+loop-table-preserved g c =
+    let lt : c.loop-table.table-index < length c.loop-table.tables = omega (arith, c.loop-table.auto.tables, c.loop-table-test.true) in
+    elim c.match-next.branch [
+      | in-Some w ↦ record {
+        left = next_left _ c.loop-table.table-index _ _ _ c.loop-table.invariant.left w.in-Some.ensures.items;
+        walked = rw w.tables-is (walked_on Adds _ _ _ _ _ c.table-item.result _ c.loop-table.invariant.walked lt (next_at _ c.loop-table.table-index _ _ _ c.loop-table.invariant.left w.in-Some.ensures.items) (w.add_rows.ensures.rows, w.add_rows.ensures.spare));
+      }
+      | in_default w ↦ absurd (omega (arith, none_next c.args.rows.items c.loop-table.table-index c.loop-table.lists.rest.items c.loop-table.invariant.left (omega (arith, w.in_default.ensures.cases.0, c.loop-table.lists.rest.ok.0)), all_counted CanAdd c.args.rows.items c.args.tables.now c.args.tables.now c.requires, c.loop-table-test.true))
+    ]
+
+pub returns : goal.returns
+returns g c = walked_all Adds _ _ _ _ c.loop-table.invariant.walked c.loop-table-test.false

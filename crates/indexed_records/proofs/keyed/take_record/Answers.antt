@@ -1,0 +1,13 @@
+use Rattle.std.proofs.Common.{arith, ◌∙◌, ap}
+use Rattle.indexed_records.specs.View.{records_of}
+use Rattle.indexed_records.proofs.ByKey.{count_of, stands_of, of_removed}
+use Rattle.indexed_records.proofs.keyed.take_record.Goals as goal
+
+pub remove-requires : goal.remove-requires
+remove-requires g c = omega (arith, c.requires, count_of (g.R.OrderedTable.entries c.args.records.now) c.len.ensures.sorted)
+
+pub returns-clause-taken : goal.returns-clause-taken
+returns-clause-taken g c = stands_of _ c.args.place c.remove.result.0 c.remove.result.1 c.len.ensures.sorted c.remove.ensures.taken
+
+pub returns-clause-left : goal.returns-clause-left
+returns-clause-left g c = ap records_of c.remove.ensures.left ∙ of_removed _ c.args.place c.remove.result.0 c.remove.result.1 c.len.ensures.sorted c.remove.ensures.taken

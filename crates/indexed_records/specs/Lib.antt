@@ -1,0 +1,9 @@
+pub mod Reading
+pub mod Contents
+pub mod View
+pub mod Matches
+pub mod Shown
+pub mod Walks
+pub mod Clashes
+pub mod Causes
+pub mod Dropping

@@ -1,0 +1,109 @@
+// Whether a new record's rows would give a key of a unique index a second row.
+ghost use Rattle.std.specs.Prelude.{◌≡◌, ◌<◌, false, Some, None, slice_get};
+ghost use Rattle.std.specs.Ordering.{is_eq};
+ghost use Rattle.key_order.specs.KeyOrder.{key_cmp};
+ghost use Rattle.clone_values.specs.View.{key_tree_of};
+ghost use Rattle.idb_keys.specs.KeyRange.{bound_at};
+ghost use Rattle.index_tables.specs.Rows.{rows_of, first_row};
+ghost use Rattle.index_rows.specs.Unique.{first_repeated};
+ghost use Rattle.indexed_records.specs.Clashes.{has_other, clash_in, clash_at, clash_any, AreUnique};
+
+use crate::growing::list_at;
+use crate::reading::table_at;
+use clone_values::Key;
+use idb_schema::IndexInfos;
+use index_tables::{IndexTable, Rows, Tables};
+use key_order::compare;
+use sorted_table::Steps;
+use std::cmp::Ordering;
+use std::marker::Brand;
+use std::sync::ledger::{Blank, Ledger};
+
+/// Whether some index has another record's row with the key of one of these rows.
+pub(crate) fn clashes_any<T: Tables>(
+    indexes: &IndexInfos,
+    tables: &Vec<IndexTable<T>>,
+    rows: &Vec<Rows>,
+    primary: &Key,
+) -> bool
+    requires { AreUnique indexes.now tables.now.items }
+    ensures { result ≡ clash_any indexes.now tables.now.items rows.now.items (key_tree_of primary.now) }
+{
+    for place in 0..rows.len() {
+        if clashes_at(indexes, tables, rows, place, primary) {
+            return true;
+        }
+    }
+    false
+}
+
+/// The same of the index at this place.
+fn clashes_at<T: Tables>(
+    indexes: &IndexInfos,
+    tables: &Vec<IndexTable<T>>,
+    rows: &Vec<Rows>,
+    place: usize,
+    primary: &Key,
+) -> bool
+    requires { AreUnique indexes.now tables.now.items }
+    ensures { result ≡ clash_at (slice_get indexes.now place) (slice_get tables.now.items place) (slice_get rows.now.items place) (key_tree_of primary.now) }
+{
+    let Some(index) = indexes.at(place) else {
+        return false;
+    };
+    let Some(table) = table_at(tables, place) else {
+        return false;
+    };
+    let Some(list) = list_at(rows, place) else {
+        return false;
+    };
+    if !index.unique {
+        return false;
+    }
+    clashes_in(table, list, primary)
+}
+
+/// The same of one unique index.
+fn clashes_in<T: Tables>(table: &IndexTable<T>, rows: &Rows, primary: &Key) -> bool
+    requires { first_repeated (rows_of table.now.rows) ≡ None }
+    ensures { result ≡ clash_in table.now.rows (key_tree_of primary.now) rows.now }
+{
+    for place in 0..rows.len() {
+        if let Some(row) = rows.at(place) {
+            if has_another(table, &row.key, primary) {
+                return true;
+            }
+        }
+    }
+    false
+}
+
+/// Whether a row with this index key leads to another record; found by halving.
+fn has_another<T: Tables>(table: &IndexTable<T>, key: &Key, primary: &Key) -> bool
+    requires { first_repeated (rows_of table.now.rows) ≡ None }
+    ensures { result ≡ has_other table.now.rows (key_tree_of key.now) (key_tree_of primary.now) }
+{
+    match table.row(first_of_key::<T, Brand>(table, key, Blank::new(1))) {
+        Some(row) => ties(key, &row.key) && !ties(primary, &row.primary),
+        None => false,
+    }
+}
+
+pub(crate) fn ties(one: &Key, other: &Key) -> bool
+    ensures { result ≡ is_eq (key_cmp (key_tree_of one.now) (key_tree_of other.now)) }
+{
+    match compare(one, other) {
+        Ordering::Equal => true,
+        _ => false,
+    }
+}
+
+fn first_of_key<T: Tables, L: Ledger>(table: &IndexTable<T>, key: &Key, blank: Blank) -> usize
+    requires name { blank.name ≡ L.name }
+    requires parts { blank.parts ≡ L.parts }
+    requires some { 0 < blank.parts }
+    ensures { result ≡ first_row (Some (bound_at (key_tree_of key.now) false)) table.now.rows }
+{
+    let mut steps: Steps<L> = Steps::new(blank);
+    table.first_from(Some(key), false, &mut steps)
+}

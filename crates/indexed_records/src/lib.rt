@@ -1,0 +1,23 @@
+// Records with the rows of their indexes kept beside them.
+//
+// Layers above hold an `IndexedRecords`, which contracts see as the definition of a store and its records by key; the rows of
+// each index are what computing them afresh from all records gives.
+#![tactic(auto)]
+
+mod building;
+mod clashing;
+mod copying;
+mod dropping;
+mod extracting;
+mod growing;
+mod index_error;
+mod keyed;
+mod reading;
+mod records;
+
+pub use dropping::Dropped;
+pub use index_error::IndexError;
+pub use records::IndexedRecords;
+
+#[cfg(test)]
+mod tests;

@@ -1,0 +1,10 @@
+pub mod Spare
+pub mod Logged
+pub mod Added
+pub mod Removed
+pub mod Cleared
+pub mod Off
+pub mod Past
+pub mod Over
+pub mod Deleted
+pub mod Indexes

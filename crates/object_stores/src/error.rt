@@ -1,0 +1,17 @@
+// Why a store did not change.
+use clone_values::NoMemory;
+
+/// Why a record was not stored.
+#[derive(Clone, Copy, Debug, PartialEq, Eq)]
+pub enum StoreError {
+    /// The key generator has no number left, `add` found a record of the same key, or a unique index would have two rows of
+    /// one key.
+    Constraint,
+    NoMemory,
+}
+
+impl From<NoMemory> for StoreError {
+    fn from(_e: NoMemory) -> StoreError {
+        StoreError::NoMemory
+    }
+}

@@ -1,0 +1,44 @@
+-- The order of keys as they stand in a table.
+--     by_key_order          the order of keys (Indexed Database API 3.0, 2.4)
+use Rattle.std.specs.Prelude.{◌≡◌, List, [], ◌∷◌, refl}
+use Rattle.std.proofs.Common.{sym, ap, ◌∙◌}
+use Rattle.std.specs.declared.cmp.Ordering.{Ordering}
+use Rattle.std.specs.Cmp.{IsTotalOrder}
+use Rattle.std.specs.FinMap.{IsAntisymmetric}
+use Rattle.std.proofs.lemmas.Cmp.{on_total}
+use Rattle.clone_values.specs.declared.key_types.Key.{Key}
+use Rattle.clone_values.specs.declared.key_types.Key.TheVariants as key
+use Rattle.clone_values.specs.View.{key_tree_of}
+use Rattle.clone_values.specs.KeyTree.{KeyTree, key_trees_of, list_of_keys}
+use Rattle.clone_values.specs.KeyTree as keys
+use Rattle.key_order.specs.KeyOrder.{key_cmp}
+use Rattle.key_order.proofs.KeyLaws.{key_cmp_total, key_cmp_same}
+
+-- how one key stands to another
+abbrev pub by_key_order : Key → Key → Ordering
+by_key_order j k = key_cmp (key_tree_of j) (key_tree_of k)
+
+pub by_key_order_total : IsTotalOrder by_key_order
+by_key_order_total = on_total key_tree_of key_cmp_total
+
+-- the key that a tree is of
+abbrev key_from : KeyTree → Key
+key_from (keys.number n) = key.Number n
+key_from (keys.date d) = key.Date d
+key_from (keys.text s) = key.Text s
+key_from (keys.binary b) = key.Binary b
+key_from (keys.array ks) = key.Array (list_of_keys ks)
+
+pub trees_back : (ks : List KeyTree) → list_of_keys (key_trees_of ks) ≡ ks
+trees_back [] = refl
+trees_back (k ∷ ks) = ap (λ ls. k ∷ ls) (trees_back ks)
+
+pub key_back : (k : Key) → key_from (key_tree_of k) ≡ k
+key_back (key.Number n) = refl
+key_back (key.Date d) = refl
+key_back (key.Text s) = refl
+key_back (key.Binary b) = refl
+key_back (key.Array ks) = ap key.Array (trees_back ks)
+
+pub by_key_order_same : IsAntisymmetric by_key_order
+by_key_order_same j k e = sym (key_back j) ∙ ap key_from (key_cmp_same (key_tree_of j) (key_tree_of k) e) ∙ key_back k

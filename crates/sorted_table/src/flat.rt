@@ -1,0 +1,82 @@
+// One run of entries.
+ghost use Rattle.std.specs.Prelude.{◌≡◌, ℕ, ◌+◌, ◌-◌, ◌*◌, ◌^◌, ◌<◌, ◌≤◌, [], List, Some, length, slice_get, remove, option_map, OnOk, IfOk, IfErr, vec_len, vec_capacity};
+ghost use Rattle.std.specs.FinMap.{put};
+ghost use Rattle.sorted_table.specs.Tables.{entry_seen, IsSorted, Lacks, HasKeyAt, BelongsAt};
+
+use crate::halving::{gap_in, place_in};
+use crate::order::Ordered;
+use crate::steps::Steps;
+use crate::table::OrderedTable;
+use clone_values::NoMemory;
+use std::alloc::Global;
+use std::sync::ledger::Ledger;
+
+/// A table that keeps its entries in one run. A look-up halves the run; an insertion or a removal moves the entries
+/// behind its place.
+#[derive(Drop)]
+pub struct FlatTable<K: Ordered, V: Drop> {
+    rows: Vec<(K, V)>,
+    ghost sorted: { IsSorted K.order rows.items },
+}
+
+impl<K: Ordered, V: Drop> FlatTable<K, V> {
+    /// No entry, and room for none; it takes no memory.
+    pub fn new(alloc: Global) -> FlatTable<K, V>
+        ensures empty { ⟦<FlatTable<K, V> as OrderedTable<K, V>>⟧.entries result ≡ [] }
+        ensures spare { ⟦<FlatTable<K, V> as OrderedTable<K, V>>⟧.spare result ≡ 0 }
+    {
+        FlatTable {
+            rows: Vec::new(alloc),
+        }
+    }
+}
+
+impl<K: Ordered, V: Drop> OrderedTable<K, V> for FlatTable<K, V> {
+    ghost entries = { λ t. t.rows.items };
+
+    ghost spare = { λ t. vec_capacity t.rows - vec_len t.rows };
+
+    fn place_of<L: Ledger>(&self, key: &K, steps: &mut Steps<L>) -> Result<usize, usize> {
+        place_in(self.rows.as_slice(), key, steps)
+    }
+
+    fn nth(&self, place: usize) -> Option<(&K, &V)> {
+        match self.rows.get(place) {
+            Some((key, value)) => Some((key, value)),
+            None => None,
+        }
+    }
+
+    fn len(&self) -> usize {
+        self.rows.len()
+    }
+
+    fn reserve(&mut self, n: usize) -> Result<(), NoMemory> {
+        self.rows.reserve(n)?;
+        Ok(())
+    }
+
+    fn insert(&mut self, key: K, value: V) {
+        put_in(&mut self.rows, key, value);
+    }
+
+    fn remove(&mut self, place: usize) -> (K, V) {
+        self.rows.remove(place)
+    }
+}
+
+/// Puts an entry where its key belongs.
+fn put_in<K: Ordered, V: Drop>(rows: &mut Vec<(K, V)>, key: K, value: V)
+    requires room { vec_len rows.old < vec_capacity rows.old }
+    requires sorted { IsSorted K.order rows.old.items }
+    requires absent { Lacks K.order rows.old.items key }
+    ensures items { rows.new.items ≡ put K.order key value rows.old.items }
+    ensures len { vec_len rows.new ≡ vec_len rows.old + 1 }
+    ensures capacity { vec_capacity rows.old ≤ vec_capacity rows.new }
+{
+    let place = gap_in(rows.as_slice(), &key);
+    match rows.insert(place, (key, value)) {
+        Ok(()) => {}
+        Err(_) => unreachable!(),
+    }
+}

@@ -1,0 +1,21 @@
+// Sorted tables: entries whose keys rise strictly, with spare places that make an insertion certain.
+//
+// Layers above hold an `OrderedTable`, which contracts see as the list of its entries and a number of spare places;
+// `FlatTable` is one, and `table_laws` says what the words of its contract mean.
+#![tactic(auto)]
+
+mod flat;
+mod halving;
+mod laws;
+mod order;
+mod steps;
+mod table;
+
+pub use flat::FlatTable;
+pub use laws::table_laws;
+pub use order::Ordered;
+pub use steps::Steps;
+pub use table::{OrderedTable, find_place};
+
+#[cfg(test)]
+mod tests;

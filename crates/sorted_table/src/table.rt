@@ -1,0 +1,85 @@
+// What every table promises.
+ghost use Rattle.std.specs.Prelude.{◌≡◌, ℕ, ◌+◌, ◌-◌, ◌*◌, ◌^◌, ◌<◌, ◌≤◌, List, Some, length, slice_get, remove, option_map, OnOk, IfOk, IfErr, IsOk};
+ghost use Rattle.std.specs.FinMap.{put};
+ghost use Rattle.sorted_table.specs.Tables.{entry_seen, IsSorted, Lacks, HasKeyAt, BelongsAt};
+
+use crate::order::Ordered;
+use crate::steps::Steps;
+use clone_values::NoMemory;
+use std::marker::Brand;
+use std::sync::ledger::{Blank, Ledger};
+
+/// Entries whose keys rise strictly, and spare places. Contracts see the list of the entries and how many more can be
+/// inserted without memory.
+pub trait OrderedTable<K: Ordered, V: Drop>: Drop {
+    ghost entries: { Self → List (K × V) };
+
+    ghost spare: { Self → ℕ };
+
+    /// The place of the key, counted from 0, or the place where it would stand. It takes no memory, and at most one
+    /// comparison more than the number of entries has binary digits.
+    fn place_of<L: Ledger>(&self, key: &K, steps: &mut Steps<L>) -> Result<usize, usize>
+        ensures found { IfOk result (λ place. HasKeyAt K.order (entries self.now) place key.now) }
+        ensures absent { IfErr result (λ place. BelongsAt K.order (entries self.now) place key.now) }
+        ensures sorted { IsSorted K.order (entries self.now) }
+        ensures counted { steps.old ≤ steps.new }
+        ensures cost { 2 ^ (steps.new - steps.old) ≤ 4 * length (entries self.now) + 2 };
+
+    /// The entry at this place, counted from 0; `None` past the end.
+    fn nth(&self, place: usize) -> Option<(&K, &V)>
+        ensures { option_map entry_seen result ≡ slice_get (entries self.now) place };
+
+    /// How many entries there are.
+    fn len(&self) -> usize
+        ensures value { result ≡ length (entries self.now) }
+        ensures sorted { IsSorted K.order (entries self.now) };
+
+    /// Makes room for at least this many insertions. `NoMemory` comes where that room was missing and memory ran out.
+    fn reserve(&mut self, n: usize) -> Result<(), NoMemory>
+        ensures entries { entries self.new ≡ entries self.old }
+        ensures spare { spare self.old ≤ spare self.new }
+        ensures room { OnOk result (n ≤ spare self.new) }
+        ensures enough { n ≤ spare self.old → IsOk result };
+
+    /// Puts an entry in its place. It takes no memory.
+    fn insert(&mut self, key: K, value: V)
+        requires room { 0 < spare self.old }
+        requires absent { Lacks K.order (entries self.old) key }
+        ensures entries { entries self.new ≡ put K.order key value (entries self.old) }
+        ensures spare { spare self.old ≤ spare self.new + 1 };
+
+    /// Takes the entry at this place out. It takes no memory.
+    fn remove(&mut self, place: usize) -> (K, V)
+        requires { place < length (entries self.old) }
+        ensures taken { slice_get (entries self.old) place ≡ Some result }
+        ensures left { entries self.new ≡ remove (entries self.old) place }
+        ensures spare { spare self.old ≤ spare self.new };
+}
+
+/// The place of the key as `place_of` finds it, for a caller that counts no comparisons.
+pub fn find_place<K: Ordered, V: Drop, T: OrderedTable<K, V>>(
+    table: &T,
+    key: &K,
+) -> Result<usize, usize>
+    ensures found { IfOk result (λ place. HasKeyAt K.order (T.entries table.now) place key.now) }
+    ensures absent { IfErr result (λ place. BelongsAt K.order (T.entries table.now) place key.now) }
+    ensures sorted { IsSorted K.order (T.entries table.now) }
+{
+    found_from::<K, V, T, Brand>(table, key, Blank::new(1))
+}
+
+fn found_from<K: Ordered, V: Drop, T: OrderedTable<K, V>, L: Ledger>(
+    table: &T,
+    key: &K,
+    blank: Blank,
+) -> Result<usize, usize>
+    requires name { blank.name ≡ L.name }
+    requires parts { blank.parts ≡ L.parts }
+    requires some { 0 < blank.parts }
+    ensures found { IfOk result (λ place. HasKeyAt K.order (T.entries table.now) place key.now) }
+    ensures absent { IfErr result (λ place. BelongsAt K.order (T.entries table.now) place key.now) }
+    ensures sorted { IsSorted K.order (T.entries table.now) }
+{
+    let mut steps: Steps<L> = Steps::new(blank);
+    table.place_of(key, &mut steps)
+}
