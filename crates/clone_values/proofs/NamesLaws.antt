@@ -1,6 +1,6 @@
 -- Setting a property in a list of rising names.
 use Rattle.std.specs.FinMap.{nat_cmp-IsAntisymmetric, slice_cmp-IsAntisymmetric}
-use Rattle.std.proofs.Common.{Result, Ok, Err, OnOk, OnErr, Some, None, inl, inr, ⊎_elim, ◌⊎◌, if◌then◌else◌, nat_eq, slice_get, append_assoc, ◌≡◌, ℕ, zero, suc, ◌+◌, ◌<◌, Bool, true, false, ◌&&◌, List, [], ◌∷◌, ◌++◌, take, drop, length, slice_set, refl, sym, ◌∙◌, ap, add-one}
+use Rattle.std.proofs.Common.{Result, Ok, Err, OnOk, OnErr, Some, None, inl, inr, ⊎_elim, ◌⊎◌, if◌then◌else◌, nat_eq, slice_get, append_assoc, ◌≡◌, ℕ, zero, suc, ◌+◌, ◌<◌, Bool, true, false, ◌&&◌, List, [], ◌∷◌, ◌++◌, take, drop, length, slice_set, refl, sym, ◌∙◌, ap, add-one, arith, ◌≤◌}
 use Rattle.std.specs.declared.cmp.Ordering.{Ordering}
 use Rattle.std.specs.declared.cmp.Ordering.TheVariants.{Less, Equal, Greater}
 use Rattle.std.specs.Ordering.{nat_cmp, is_lt, is_eq, match_ordering, ordering_reverse}
@@ -9,11 +9,13 @@ use Rattle.std.specs.Cmp.Lexicographic.{slice_cmp, pointwise, texts_ties}
 use Rattle.std.specs.Option.{option_map}
 use Rattle.std.proofs.lemmas.Option.{slice_get-map}
 use Rattle.std.specs.List.{insert}
-use Rattle.std.proofs.lemmas.List.{set_split}
+use Rattle.std.proofs.lemmas.List.{set_split, length-set}
+use Rattle.std.proofs.lemmas.List.Edits.{length-insert}
 use Rattle.std.proofs.Math.Seq.{drop-length}
 use Rattle.std.proofs.lemmas.Cmp.{nat_list_cmp_total, tied_itself}
 use Rattle.clone_values.specs.Tree.{Tree}
-use Rattle.clone_values.specs.Limits.{StandsAt, below_StandsAt}
+use Rattle.idb_base.specs.Lists.{StandsAt, IsWithinLimit, FitsOneMore}
+use Rattle.clone_values.specs.Falls.{below_StandsAt}
 use Rattle.clone_values.specs.Names.{names_of, rises_after, is_rising, set_member, get_member, HasNameAt}
 
 lt_less : (o : Ordering) → is_lt o ≡ true → o ≡ Less
@@ -55,17 +57,6 @@ module _ (n : List ℕ) (v : Tree) where
         | Equal ↦ λ e. ap (λ w. rises_after w (names_of ms)) (slice_cmp-IsAntisymmetric nat_cmp-IsAntisymmetric n m.0 e) ∙ h
         | Greater ↦ λ e. rises_set m.0 ms h (turned n m.0 e)
       ] refl
-
--- ---- a list that begins so has rising names too
-rises_front : (p : List ℕ) (ms ns : List (List ℕ × Tree)) → rises_after p (names_of (ms ++ ns)) ≡ true → rises_after p (names_of ms) ≡ true
-rises_front p [] ns h = refl
-rises_front p (m ∷ ms) ns h =
-    both_true (is_lt (slice_cmp nat_cmp p m.0)) _ (first_so (is_lt (slice_cmp nat_cmp p m.0)) (rises_after m.0 (names_of (ms ++ ns))) h)
-    (rises_front m.0 ms ns (second_so (is_lt (slice_cmp nat_cmp p m.0)) (rises_after m.0 (names_of (ms ++ ns))) h))
-
-pub rising_front : (ms ns : List (List ℕ × Tree)) → is_rising (names_of (ms ++ ns)) ≡ true → is_rising (names_of ms) ≡ true
-rising_front [] ns h = refl
-rising_front (m ∷ ms) ns h = rises_front m.0 ms ns h
 
 -- ---- what stands before a place of a rising list is less
 below_later : (p : List ℕ) (ms : List (List ℕ × Tree)) (i : ℕ) (m : List ℕ × Tree) → rises_after p (names_of ms) ≡ true → StandsAt ms i m → slice_cmp nat_cmp p m.0 ≡ Less
@@ -179,10 +170,15 @@ module _ (ms : List (List ℕ × Tree)) (n : List ℕ) (i : ℕ) (passed : Passe
   put_there v = passed.set v ∙ ap (λ r. take i ms ++ r) (ahead.set v)
 
 -- the list after a property is set, and after that failed
-pub rising_after : (ms xs new : List (List ℕ × Tree)) (n : List ℕ) (v : Tree) → is_rising (names_of ms) ≡ true → set_member ms n v ≡ xs → new ≡ xs → is_rising (names_of new) ≡ true
-rising_after ms xs new n v h e f = ap (λ w. is_rising (names_of w)) (f ∙ sym e) ∙ rising_set n v ms h
+set_either : {E : Type 0} (r : Result (Unit {0}) E) (ms xs new : List (List ℕ × Tree)) (n : List ℕ) (v : Tree)
+    → IsWithinLimit ms × (is_rising (names_of ms) ≡ true) → IsWithinLimit xs → set_member ms n v ≡ xs → OnOk r (new ≡ xs) → OnErr r (new ≡ ms)
+    → IsWithinLimit new × (is_rising (names_of new) ≡ true)
+set_either (Ok _) ms xs new n v h short e f g = rw f (short, ap (λ w. is_rising (names_of w)) (sym e) ∙ rising_set n v ms h.1)
+set_either (Err _) ms xs new n v h short e f g = rw g h
 
-pub rising_either : {E : Type 0} (r : Result (Unit {0}) E) (ms xs new : List (List ℕ × Tree)) (n : List ℕ) (v : Tree) → is_rising (names_of ms) ≡ true → set_member ms n v ≡ xs → OnOk r (new ≡ xs) → OnErr r (new ≡ ms)
-    → is_rising (names_of new) ≡ true
-rising_either (Ok _) ms xs new n v h e f g = rising_after ms xs new n v h e f
-rising_either (Err _) ms xs new n v h e f g = ap (λ w. is_rising (names_of w)) g ∙ h
+module _ {E : Type 0} (r : Result (Unit {0}) E) (ms new : List (List ℕ × Tree)) (i : ℕ) (n : List ℕ) (v : Tree) (kept : IsWithinLimit ms × (is_rising (names_of ms) ≡ true)) where
+  pub replaced_either : set_member ms n v ≡ slice_set ms i (n, v) → OnOk r (new ≡ slice_set ms i (n, v)) → OnErr r (new ≡ ms) → IsWithinLimit new × (is_rising (names_of new) ≡ true)
+  replaced_either = set_either r ms (slice_set ms i (n, v)) new n v kept (omega (arith, length-set ms i (n, v), kept.0))
+
+  pub inserted_either : i ≤ length ms → FitsOneMore ms → set_member ms n v ≡ insert ms i (n, v) → OnOk r (new ≡ insert ms i (n, v)) → OnErr r (new ≡ ms) → IsWithinLimit new × (is_rising (names_of new) ≡ true)
+  inserted_either within fits = set_either r ms (insert ms i (n, v)) new n v kept (omega (arith, length-insert ms i (n, v) within, fits))

@@ -1,7 +1,7 @@
 -- From what `get` answers at a list of values to what stands at that place of the list of their trees.
 use Rattle.std.proofs.Common.{◌≡◌, ℕ, zero, suc, ◌<◌, ◌≤◌, List, [], ◌∷◌, map, length, get_or, Option, Some, None, MatchOption, IfSome, Bor, arith, add-one, ap}
 use Rattle.std.specs.List.{HoldsAt}
-use Rattle.clone_values.specs.Limits.{StandsAt}
+use Rattle.idb_base.specs.Lists.{StandsAt}
 
 stands : {A B : Type 0} (f : A → B) (vs : List A) (i : ℕ) (x : A) → i < length vs → x ≡ get_or vs i x → StandsAt (map f vs) i (f x)
 stands f [] i x lt e = absurd (omega arith)

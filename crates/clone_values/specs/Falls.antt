@@ -1,8 +1,8 @@
 -- A list of values is larger than each of its members.
 use Rattle.std.specs.Prelude.{◌≡◌, ℕ, zero, suc, ◌+◌, ◌<◌, ◌≤◌, List, [], ◌∷◌, map}
-use Rattle.std.proofs.Common.{arith}
+use Rattle.std.proofs.Common.{arith, add-one}
 use denote.Param.Weighed.{most}
-use Rattle.clone_values.specs.Limits.{StandsAt, below_StandsAt}
+use Rattle.idb_base.specs.Lists.{StandsAt}
 use Rattle.clone_values.specs.Tree.{Tree, tree_size, trees_size, members_size, pairs_size, trees_of, members_of, pairs_of}
 use Rattle.clone_values.specs.KeyTree.{KeyTree, key_size, keys_size, key_trees_of}
 use Rattle.clone_values.specs.View.{tree_of, prop_of, pair_of, key_tree_of}
@@ -11,6 +11,11 @@ use Rattle.clone_values.specs.declared.value_types.Value.TheVariants as value
 use Rattle.clone_values.specs.declared.value_types.Prop.{Prop}
 use Rattle.clone_values.specs.declared.value_types.Pair.{Pair}
 use Rattle.clone_values.specs.declared.value_types.Items.TheDeep as deep
+use Rattle.clone_values.specs.Held.{items_held}
+use Rattle.clone_values.specs.declared.holding.Held.{Held}
+use Rattle.clone_values.specs.declared.holding.Held.TheVariants.{Empty, Shared}
+use Rattle.std.specs.Arc.{arc_value}
+use Rattle.std.specs.declared.alloc.Global.{Global}
 use Rattle.clone_values.specs.declared.key_types.Key.{Key}
 use Rattle.clone_values.specs.declared.key_types.Key.TheVariants as key
 use Rattle.clone_values.specs.declared.key_types.Keys.TheDeep as deep_keys
@@ -41,6 +46,18 @@ pub pairs_fall : (ps : List Pair) → most (λ p. deep.deep-Pair p) ps ≤ pairs
 pairs_fall [] = omega arith
 pairs_fall (p ∷ ps) = omega (arith, value_falls p.key, value_falls p.value, pairs_fall ps)
 
+pub held_items_fall : (l : Held Value) (g : Global) → deep.deep-Items (record { items = l; alloc = g }) ≤ trees_size (trees_of (map tree_of (items_held l)))
+held_items_fall Empty g = omega arith
+held_items_fall (Shared l) g = omega (arith, items_fall (arc_value l).items)
+
+pub held_props_fall : (l : Held Prop) (g : Global) → deep.deep-Props (record { props = l; alloc = g }) ≤ members_size (members_of (map prop_of (items_held l)))
+held_props_fall Empty g = omega arith
+held_props_fall (Shared l) g = omega (arith, props_fall (arc_value l).items)
+
+pub held_pairs_fall : (l : Held Pair) (g : Global) → deep.deep-Pairs (record { pairs = l; alloc = g }) ≤ pairs_size (pairs_of (map pair_of (items_held l)))
+held_pairs_fall Empty g = omega arith
+held_pairs_fall (Shared l) g = omega (arith, pairs_fall (arc_value l).items)
+
 pub key_falls : (k : Key) → deep_keys.deep-Key k ≤ key_size (key_tree_of k)
 key_falls (key.Number n) = omega arith
 key_falls (key.Date d) = omega arith
@@ -51,6 +68,13 @@ key_falls (key.Array ks) = omega arith
 pub keys_fall : (ks : List Key) → most (λ k. deep_keys.deep-Key k) ks ≤ keys_size (key_trees_of (map key_tree_of ks))
 keys_fall [] = omega arith
 keys_fall (k ∷ ks) = omega (arith, key_falls k, keys_fall ks)
+
+pub held_keys_fall : (l : Held Key) (g : Global) → deep_keys.deep-Keys (record { keys = l; alloc = g }) ≤ keys_size (key_trees_of (map key_tree_of (items_held l)))
+held_keys_fall Empty g = omega arith
+held_keys_fall (Shared l) g = omega (arith, keys_fall (arc_value l).items)
+
+pub below_StandsAt : {A : Type 0} (w : A) (xs : List A) (i : ℕ) (x : A) → StandsAt (w ∷ xs) (suc i) x → StandsAt xs i x
+below_StandsAt w xs i x e = rw add-one (rw (add-one (suc i)) at e)
 
 -- ---- what stands at a place of a list is smaller than the list: for a recursion that takes members by `at`
 pub smaller_tree : (ts : List Tree) (i : ℕ) (t : Tree) → StandsAt ts i t → tree_size t < trees_size (trees_of ts)

@@ -1,20 +1,20 @@
 -- Well formed keys, how deep a key is, and the value of a key.
 --     is_key, IsKey         the ranges and sizes that a key keeps to
 --     key_depth             how deep a key is
---     value_of_key          the value that converts to a key (Indexed Database API 3.0, 7.3, "convert a key to a value")
+--     value_of_key          the value that converts to a key (Indexed Database API 3.0, "convert a key to a value")
 use Rattle.std.specs.Prelude.{◌≡◌, ℕ, ◌+◌, Bool, true, ◌&&◌, max}
 use Rattle.clone_values.specs.Tree.{Tree, Trees, int, date, text, bytes, array, no_trees, tree_more, no_members}
 use Rattle.clone_values.specs.KeyTree.{KeyTree, KeyTrees, no_keys, key_more, list_of_keys}
 use Rattle.clone_values.specs.KeyTree as keys
-use Rattle.clone_values.specs.WellFormed.{is_int, is_date, is_within_limit}
+use Rattle.clone_values.specs.WellFormed.{is_int, is_date, is_within_limit, is_text, is_byte_string}
 
 -- numbers and dates are in the ranges of values, and no text, byte string or list is longer than in a value
 abbrev mutual
   pub is_key : KeyTree → Bool
   is_key (keys.number n) = is_int n
   is_key (keys.date d) = is_date d
-  is_key (keys.text s) = is_within_limit s
-  is_key (keys.binary b) = is_within_limit b
+  is_key (keys.text s) = is_text s
+  is_key (keys.binary b) = is_byte_string b
   is_key (keys.array ks) = are_keys ks && is_within_limit (list_of_keys ks)
 
   pub are_keys : KeyTrees → Bool

@@ -1,11 +1,12 @@
-pub mod Limits
 pub mod Tree
 pub mod KeyTree
 pub mod View
 pub mod Falls
+pub mod Held
 pub mod Values
 pub mod Sameness
 pub mod Names
 pub mod WellFormed
 pub mod Characters
 pub mod KeyValues
+pub mod Cloneable

@@ -3,6 +3,7 @@
 --     depth_of              how deep a value is
 --     IsCloneable           cloning doesn't refuse it (HTML, StructuredSerializeForStorage)
 use Rattle.std.specs.Prelude.{◌≡◌, ℕ, ◌+◌, ◌≤◌, Bool, true, false, ◌||◌, max}
+use Rattle.idb_base.specs.declared.limits.TheConstants.{GREATEST_DEPTH}
 use Rattle.clone_values.specs.Tree.{Tree, Trees, Members, PairTrees, array, object, map_object, set_object, function, no_trees, tree_more, no_members, member_more, no_pairs, pair_more}
 
 -- ---- depth: a value without members has depth 1, any other 1 more than the greatest depth of its members
@@ -49,6 +50,6 @@ abbrev mutual
   pairs_hold_function no_pairs = false
   pairs_hold_function (pair_more s t ps) = holds_function s || holds_function t || pairs_hold_function ps
 
--- no Function is in the value, and its depth is at most 100
+-- no Function is in the value, and its depth is at most the greatest
 abbrev pub IsCloneable : Tree → Type 0
-IsCloneable t = (holds_function t ≡ false) × (depth_of t ≤ 100)
+IsCloneable t = (holds_function t ≡ false) × (depth_of t ≤ GREATEST_DEPTH)

@@ -29,6 +29,10 @@ tree_of value.Function = function
 abbrev pub prop_of : Prop → List ℕ × Tree
 prop_of p = (p.name, tree_of p.value)
 
+-- a name and the tree of the value that is kept with it
+abbrev pub named_value_of : List ℕ × Value → List ℕ × Tree
+named_value_of m = (m.0, tree_of m.1)
+
 -- the trees of an entry's key and value
 abbrev pub pair_of : Pair → Tree × Tree
 pair_of p = (tree_of p.key, tree_of p.value)

@@ -1,27 +1,41 @@
 -- Well formed values: the ranges, sizes, names and members that a value keeps to.
 --     is_value, IsValue     the rules for the whole tree
 --     is_int, is_date       the ranges of numbers and of dates
+--     is_text, is_byte_string      texts and byte strings of a stored size
 --     are_once              no primitive stands twice
 --     is_array_name         what a named property of an Array may be called
-use Rattle.std.specs.Prelude.{◌≡◌, ℕ, Bool, true, not, ◌&&◌, ◌==◌, nat_eq, nat_le, ℤ, pos, negsuc, List, [], ◌∷◌, map, length, codes}
+use Rattle.std.specs.Prelude.{◌≡◌, ℕ, Bool, true, not, ◌&&◌, ◌==◌, nat_eq, nat_le, nat_lt, ℤ, List, [], ◌∷◌, map, length, codes}
 use Rattle.std.specs.List.{list_any, list_all}
+use Rattle.std.specs.Str.{is_utf8}
 use Rattle.std.specs.Ordering.{int_cmp, is_le}
 use Rattle.std.specs.Cmp.Lexicographic.{pointwise}
+use Rattle.idb_base.specs.declared.limits.TheConstants.{GREATEST_LENGTH, GREATEST_INT, LEAST_INT, GREATEST_DATE, LEAST_DATE}
 use Rattle.clone_values.specs.Tree.{Tree, Trees, Members, PairTrees, int, text, date, bytes, array, object, map_object, set_object, no_trees, tree_more, no_members, member_more, no_pairs, pair_more, list_of_trees, list_of_members, list_of_pairs}
 use Rattle.clone_values.specs.Names.{names_of, is_rising}
 use Rattle.clone_values.specs.Sameness.{repeats}
 
 -- from -2^53 to 2^53
 abbrev pub is_int : ℤ → Bool
-is_int n = is_le (int_cmp (negsuc 9007199254740991) n) && is_le (int_cmp n (pos 9007199254740992))
+is_int n = is_le (int_cmp LEAST_INT n) && is_le (int_cmp n GREATEST_INT)
 
 -- a date's milliseconds, from -8,640,000,000,000,000 to 8,640,000,000,000,000 (ECMAScript, Time Values)
 abbrev pub is_date : ℤ → Bool
-is_date d = is_le (int_cmp (negsuc 8639999999999999) d) && is_le (int_cmp d (pos 8640000000000000))
+is_date d = is_le (int_cmp LEAST_DATE d) && is_le (int_cmp d GREATEST_DATE)
 
 -- at most 4,294,967,295 bytes or members
 abbrev pub is_within_limit : {A : Type 0} → List A → Bool
-is_within_limit xs = nat_le (length xs) 4294967295
+is_within_limit xs = nat_le (length xs) GREATEST_LENGTH
+
+-- Unicode text of a stored size, as its UTF-8 bytes
+abbrev pub is_text : List ℕ → Bool
+is_text s = is_utf8 s && is_within_limit s
+
+abbrev pub is_byte : ℕ → Bool
+is_byte b = nat_lt b 256
+
+-- bytes, in a stored size
+abbrev pub is_byte_string : List ℕ → Bool
+is_byte_string bs = list_all is_byte bs && is_within_limit bs
 
 -- a primitive stands at its first place alone
 abbrev pub are_once : List Tree → Bool
@@ -41,14 +55,14 @@ is_array_name n = not (pointwise nat_eq n (codes "length")) && not (are_digits n
 
 -- the names rise strictly, and are texts of a stored size, as is their list
 abbrev pub are_properties : List (List ℕ × Tree) → Bool
-are_properties ms = is_within_limit ms && list_all is_within_limit (names_of ms) && is_rising (names_of ms)
+are_properties ms = is_within_limit ms && list_all is_text (names_of ms) && is_rising (names_of ms)
 
 abbrev mutual
   pub is_value : Tree → Bool
   is_value (int n) = is_int n
   is_value (date d) = is_date d
-  is_value (text s) = is_within_limit s
-  is_value (bytes b) = is_within_limit b
+  is_value (text s) = is_text s
+  is_value (bytes b) = is_byte_string b
   is_value (array ts ms) = are_values ts && is_within_limit (list_of_trees ts) && member_values ms && are_properties (list_of_members ms) && list_all is_array_name (names_of (list_of_members ms))
   is_value (object ms) = member_values ms && are_properties (list_of_members ms)
   is_value (map_object ps) = pair_values ps && is_within_limit (list_of_pairs ps) && are_once (map (λ p. p.0) (list_of_pairs ps))

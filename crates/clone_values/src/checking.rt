@@ -5,13 +5,12 @@ ghost use Rattle.clone_values.specs.Tree.{trees_of, members_of, pairs_of};
 ghost use Rattle.clone_values.specs.View.{tree_of};
 ghost use Rattle.clone_values.specs.Names.{names_of};
 ghost use Rattle.clone_values.specs.Sameness.{repeats};
-ghost use Rattle.clone_values.specs.WellFormed.{is_value, are_values, member_values, pair_values, is_int, is_date, are_once, is_array_name, are_properties, is_within_limit, are_digits};
+ghost use Rattle.clone_values.specs.WellFormed.{is_value, are_values, member_values, pair_values, is_int, is_date, are_once, is_array_name, are_properties, is_within_limit, are_digits, is_text, is_byte_string};
 
 use crate::putting::repeats;
+use crate::small_lists::Text;
 use crate::value_types::{Items, Pairs, Props, Value};
-
-/// The greatest number of bytes of a text or byte string, and of members of a list.
-const LIMIT: usize = 4_294_967_295;
+use idb_base::{GREATEST_DATE, GREATEST_INT, GREATEST_LENGTH, LEAST_DATE, LEAST_INT};
 
 /// Whether the value keeps to the ranges of numbers and dates, the sizes, the names of properties, and primitive
 /// members that stand once; it takes no memory.
@@ -23,21 +22,21 @@ pub fn well_formed(v: &Value) -> bool
     match v {
         Value::Int(n) => is_int(*n),
         Value::Date(d) => is_date(*d),
-        Value::Text(s) => s.as_str().len() <= LIMIT,
-        Value::Bytes(b) => b.len() <= LIMIT,
+        Value::Text(s) => is_text(s),
+        Value::Bytes(b) => is_byte_string(b.as_slice()),
         Value::Array(items, props) => {
             items_well_formed(items)
-                && items.len() <= LIMIT
+                && items.len() <= GREATEST_LENGTH
                 && props_well_formed(props)
                 && are_properties(props)
                 && are_array_names(props)
         }
         Value::Object(props) => props_well_formed(props) && are_properties(props),
         Value::Map(pairs) => {
-            pairs_well_formed(pairs) && pairs.len() <= LIMIT && keys_are_once(pairs)
+            pairs_well_formed(pairs) && pairs.len() <= GREATEST_LENGTH && keys_are_once(pairs)
         }
         Value::Set(items) => {
-            items_well_formed(items) && items.len() <= LIMIT && items_are_once(items)
+            items_well_formed(items) && items.len() <= GREATEST_LENGTH && items_are_once(items)
         }
         _ => true,
     }
@@ -86,27 +85,42 @@ fn pairs_well_formed(pairs: &Pairs) -> bool
     true
 }
 
-fn is_int(n: i64) -> bool
-    ensures { result ≡ is_int n }
+#[tactic(auto, using(crate::proofs::Lists::is_unicode))]
+fn is_text(s: &Text) -> bool
+    ensures { result ≡ is_text s.now }
 {
-    (-9_007_199_254_740_992..=9_007_199_254_740_992).contains(&n)
+    s.as_str().len() <= GREATEST_LENGTH
 }
 
-fn is_date(d: i64) -> bool
+fn is_byte_string(bytes: &[u8]) -> bool
+    ensures { result ≡ is_byte_string bytes.now }
+{
+    bytes.len() <= GREATEST_LENGTH
+}
+
+/// Whether the number is in the range of a value's numbers.
+pub fn is_int(n: i64) -> bool
+    ensures { result ≡ is_int n }
+{
+    (LEAST_INT..=GREATEST_INT).contains(&n)
+}
+
+/// Whether the milliseconds are in the range of dates.
+pub fn is_date(d: i64) -> bool
     ensures { result ≡ is_date d }
 {
-    (-8_640_000_000_000_000..=8_640_000_000_000_000).contains(&d)
+    (LEAST_DATE..=GREATEST_DATE).contains(&d)
 }
 
 fn are_properties(props: &Props) -> bool
     ensures { result ≡ are_properties props.now }
 {
-    if props.len() > LIMIT {
+    if props.len() > GREATEST_LENGTH {
         return false;
     }
     for place in 0..props.len() {
         if let Some(prop) = props.at(place) {
-            if prop.name.as_str().len() > LIMIT {
+            if !is_text(&prop.name) {
                 return false;
             }
         }
@@ -127,7 +141,8 @@ fn are_array_names(props: &Props) -> bool
     true
 }
 
-fn is_array_name(name: &str) -> bool
+/// Whether a named property of an Array may be called so: neither `length` nor by digits alone.
+pub fn is_array_name(name: &str) -> bool
     ensures { result ≡ is_array_name name.now }
 {
     name != "length" && !are_digits(name.as_bytes())

@@ -2,11 +2,12 @@
 ghost use Rattle.std.specs.Prelude.{◌≡◌, ℕ, ◌≤◌, ◌↔◌, min, IsTrue, IfOk, OnOk, IsErrOf};
 ghost use Rattle.clone_values.specs.Tree.{trees_of, members_of, pairs_of};
 ghost use Rattle.clone_values.specs.View.{tree_of};
-ghost use Rattle.clone_values.specs.Values.{depth_of, trees_depth, members_depth, pairs_depth, holds_function, trees_hold_function, members_hold_function, pairs_hold_function, IsCloneable};
+ghost use Rattle.clone_values.specs.Values.{depth_of, trees_depth, members_depth, pairs_depth, IsCloneable};
+ghost use Rattle.clone_values.specs.Cloneable.{is_cloneable_within, are_cloneable_within, members_cloneable_within, pairs_cloneable_within};
 
 use crate::copies::copy_value;
-use crate::small_lists::NoMemory;
 use crate::value_types::{Items, Pairs, Props, Value};
+use idb_base::{GREATEST_DEPTH, NoMemory};
 use std::alloc::Global;
 
 /// Why a value was not cloned.
@@ -85,62 +86,72 @@ fn pairs_depth(pairs: &Pairs) -> u32
     deepest
 }
 
-#[cycle(functions)]
+/// Whether the value can be cloned (HTML, "StructuredSerializeForStorage"). One walk, no deeper than what can be cloned;
+/// it takes no memory.
+pub fn is_cloneable(v: &Value) -> bool
+    ensures { IsTrue result ↔ IsCloneable (tree_of v.now) }
+{
+    is_within(v, GREATEST_DEPTH)
+}
+
+#[cycle(cloneable)]
 #[tactic(auto, using(crate::specs::Falls::smaller_tree))]
-fn holds_function(v: &Value) -> bool
-    ensures { result ≡ holds_function (tree_of v.now) }
+fn is_within(v: &Value, levels: usize) -> bool
+    ensures { result ≡ is_cloneable_within levels (tree_of v.now) }
 {
     match v {
-        Value::Array(items, props) => items_hold_function(items) || props_hold_function(props),
-        Value::Object(props) => props_hold_function(props),
-        Value::Map(pairs) => pairs_hold_function(pairs),
-        Value::Set(items) => items_hold_function(items),
-        Value::Function => true,
-        _ => false,
+        Value::Array(items, props) => {
+            levels > 0 && items_within(items, levels - 1) && props_within(props, levels - 1)
+        }
+        Value::Object(props) => levels > 0 && props_within(props, levels - 1),
+        Value::Map(pairs) => levels > 0 && pairs_within(pairs, levels - 1),
+        Value::Set(items) => levels > 0 && items_within(items, levels - 1),
+        Value::Function => false,
+        _ => levels > 0,
     }
 }
 
-#[cycle(functions)]
+#[cycle(cloneable)]
 #[tactic(auto, using(crate::specs::Falls::smaller_tree))]
-fn items_hold_function(items: &Items) -> bool
-    ensures { result ≡ trees_hold_function (trees_of items.now) }
+fn items_within(items: &Items, levels: usize) -> bool
+    ensures { result ≡ are_cloneable_within levels (trees_of items.now) }
 {
     for place in 0..items.len() {
         if let Some(item) = items.at(place) {
-            if holds_function(item) {
-                return true;
+            if !is_within(item, levels) {
+                return false;
             }
         }
     }
-    false
+    true
 }
 
-#[cycle(functions)]
-fn props_hold_function(props: &Props) -> bool
-    ensures { result ≡ members_hold_function (members_of props.now) }
+#[cycle(cloneable)]
+fn props_within(props: &Props, levels: usize) -> bool
+    ensures { result ≡ members_cloneable_within levels (members_of props.now) }
 {
     for place in 0..props.len() {
         if let Some(prop) = props.at(place) {
-            if holds_function(&prop.value) {
-                return true;
+            if !is_within(&prop.value, levels) {
+                return false;
             }
         }
     }
-    false
+    true
 }
 
-#[cycle(functions)]
-fn pairs_hold_function(pairs: &Pairs) -> bool
-    ensures { result ≡ pairs_hold_function (pairs_of pairs.now) }
+#[cycle(cloneable)]
+fn pairs_within(pairs: &Pairs, levels: usize) -> bool
+    ensures { result ≡ pairs_cloneable_within levels (pairs_of pairs.now) }
 {
     for place in 0..pairs.len() {
         if let Some(pair) = pairs.at(place) {
-            if holds_function(&pair.key) || holds_function(&pair.value) {
-                return true;
+            if !(is_within(&pair.key, levels) && is_within(&pair.value, levels)) {
+                return false;
             }
         }
     }
-    false
+    true
 }
 
 /// An equal value, where it can be cloned (HTML, StructuredSerializeForStorage and StructuredDeserialize).
@@ -150,7 +161,7 @@ pub fn clone_value(alloc: Global, v: &Value) -> Result<Value, CloneError>
     ensures cloneable { OnOk result (IsCloneable (tree_of v.now)) }
     ensures refused { IsErrOf result CloneError.DataClone ↔ ¬ (IsCloneable (tree_of v.now)) }
 {
-    if holds_function(v) || depth(v) > 100 {
+    if !is_cloneable(v) {
         return Err(CloneError::DataClone);
     }
     Ok(copy_value(alloc, v)?)

@@ -1,77 +1,90 @@
-// Copies of values, and whether two values are the same.
-ghost use Rattle.std.specs.Prelude.{◌≡◌, ◌↔◌, IsTrue, IfOk};
-ghost use Rattle.clone_values.specs.Tree.{trees_of, members_of, pairs_of};
-ghost use Rattle.clone_values.specs.View.{tree_of};
+// Copies of values: they share the lists, so that a copy takes the time of one item.
+ghost use Rattle.std.specs.Prelude.{◌≡◌, IfOk};
 
-use crate::small_lists::NoMemory;
+use crate::holding::share;
 use crate::value_types::{Items, Pair, Pairs, Prop, Props, Value};
-use std::alloc::Global;
+use idb_base::NoMemory;
+use std::alloc::{AllocError, Global};
 
 /// An equal value, Functions included.
-#[cycle(copy)]
-#[tactic(auto, using(crate::specs::Falls::smaller_tree))]
-pub fn copy_value(alloc: Global, v: &Value) -> Result<Value, NoMemory>
+pub fn copy_value(_alloc: Global, v: &Value) -> Result<Value, NoMemory>
     ensures { IfOk result (λ r. r ≡ v.now) }
 {
-    match v {
-        Value::Undefined => Ok(Value::Undefined),
-        Value::Null => Ok(Value::Null),
-        Value::Bool(b) => Ok(Value::Bool(*b)),
-        Value::Int(n) => Ok(Value::Int(*n)),
-        Value::Text(s) => Ok(Value::Text(s.copy(alloc)?)),
-        Value::Date(d) => Ok(Value::Date(*d)),
-        Value::Bytes(b) => Ok(Value::Bytes(b.copy(alloc)?)),
-        Value::Array(items, props) => Ok(Value::Array(
-            copy_items(alloc, items)?,
-            copy_props(alloc, props)?,
-        )),
-        Value::Object(props) => Ok(Value::Object(copy_props(alloc, props)?)),
-        Value::Map(pairs) => Ok(Value::Map(copy_pairs(alloc, pairs)?)),
-        Value::Set(items) => Ok(Value::Set(copy_items(alloc, items)?)),
-        Value::Function => Ok(Value::Function),
+    Ok(v.clone()?)
+}
+
+impl Clone for Value {
+    ghost is_clone = { λ x y. y ≡ x };
+
+    fn clone(&self) -> Result<Value, AllocError> {
+        match self {
+            Value::Undefined => Ok(Value::Undefined),
+            Value::Null => Ok(Value::Null),
+            Value::Bool(b) => Ok(Value::Bool(*b)),
+            Value::Int(n) => Ok(Value::Int(*n)),
+            Value::Text(s) => Ok(Value::Text(s.clone()?)),
+            Value::Date(d) => Ok(Value::Date(*d)),
+            Value::Bytes(b) => Ok(Value::Bytes(b.clone()?)),
+            Value::Array(items, props) => Ok(Value::Array(items.clone()?, props.clone()?)),
+            Value::Object(props) => Ok(Value::Object(props.clone()?)),
+            Value::Map(pairs) => Ok(Value::Map(pairs.clone()?)),
+            Value::Set(items) => Ok(Value::Set(items.clone()?)),
+            Value::Function => Ok(Value::Function),
+        }
     }
 }
 
-#[cycle(copy)]
-#[tactic(auto, using(crate::specs::Falls::smaller_tree))]
-fn copy_items(alloc: Global, items: &Items) -> Result<Items, NoMemory>
-    ensures { IfOk result (λ r. r ≡ items.now) }
-{
-    let mut copies = Items::new(alloc);
-    for place in 0..items.len() {
-        if let Some(item) = items.at(place) {
-            copies.items.push(copy_value(alloc, item)?)?;
-        }
+impl Clone for Prop {
+    ghost is_clone = { λ x y. y ≡ x };
+
+    fn clone(&self) -> Result<Prop, AllocError> {
+        Ok(Prop {
+            name: self.name.clone()?,
+            value: self.value.clone()?,
+        })
     }
-    Ok(copies)
 }
 
-#[cycle(copy)]
-fn copy_props(alloc: Global, props: &Props) -> Result<Props, NoMemory>
-    ensures { IfOk result (λ r. r ≡ props.now) }
-{
-    let mut copies = Props::new(alloc);
-    for place in 0..props.len() {
-        if let Some(prop) = props.at(place) {
-            let name = prop.name.copy(alloc)?;
-            let value = copy_value(alloc, &prop.value)?;
-            copies.props.push(Prop { name, value })?;
-        }
+impl Clone for Pair {
+    ghost is_clone = { λ x y. y ≡ x };
+
+    fn clone(&self) -> Result<Pair, AllocError> {
+        Ok(Pair {
+            key: self.key.clone()?,
+            value: self.value.clone()?,
+        })
     }
-    Ok(copies)
 }
 
-#[cycle(copy)]
-fn copy_pairs(alloc: Global, pairs: &Pairs) -> Result<Pairs, NoMemory>
-    ensures { IfOk result (λ r. r ≡ pairs.now) }
-{
-    let mut copies = Pairs::new(alloc);
-    for place in 0..pairs.len() {
-        if let Some(pair) = pairs.at(place) {
-            let key = copy_value(alloc, &pair.key)?;
-            let value = copy_value(alloc, &pair.value)?;
-            copies.pairs.push(Pair { key, value })?;
-        }
+impl Clone for Items {
+    ghost is_clone = { λ x y. y ≡ x };
+
+    fn clone(&self) -> Result<Items, AllocError> {
+        Ok(Items {
+            items: share(&self.items)?,
+            alloc: self.alloc,
+        })
     }
-    Ok(copies)
+}
+
+impl Clone for Props {
+    ghost is_clone = { λ x y. y ≡ x };
+
+    fn clone(&self) -> Result<Props, AllocError> {
+        Ok(Props {
+            props: share(&self.props)?,
+            alloc: self.alloc,
+        })
+    }
+}
+
+impl Clone for Pairs {
+    ghost is_clone = { λ x y. y ≡ x };
+
+    fn clone(&self) -> Result<Pairs, AllocError> {
+        Ok(Pairs {
+            pairs: share(&self.pairs)?,
+            alloc: self.alloc,
+        })
+    }
 }

@@ -1,14 +1,16 @@
 // Keys and their list. Contracts see a key as its plain key tree, and a list as the list of these.
 ghost use Rattle.std.specs.Prelude.{◌≡◌, ℕ, ◌≤◌, List, [], ◌∷◌, ◌++◌, length, map, slice_get, option_map, IfOk, IfSome, IfNone, OnOk, OnErr};
 ghost use Rattle.std.specs.Option.{option_copied};
-ghost use Rattle.clone_values.specs.Limits.{HasRoom, StandsAt};
+ghost use Rattle.idb_base.specs.Lists.{IsWithinLimit, FitsOneMore, StandsAt};
 ghost use Rattle.clone_values.specs.View.{key_tree_of};
 
-use crate::small_lists::{Bytes, NoMemory, Text};
-use std::alloc::Global;
+use crate::holding::{Held, hold, push, share, slice};
+use crate::small_lists::{Bytes, Text};
+use idb_base::NoMemory;
+use std::alloc::{AllocError, Global};
 use std::marker::Model;
 
-/// A key (Indexed Database API 3.0, 2.4).
+/// A key (Indexed Database API 3.0, "Keys").
 #[cycle(key)]
 #[derive(Drop)]
 pub enum Key {
@@ -23,7 +25,8 @@ pub enum Key {
 #[cycle(key)]
 #[derive(Drop)]
 pub struct Keys {
-    pub(crate) keys: Vec<Key>,
+    pub(crate) keys: Held<Key>,
+    pub(crate) alloc: Global,
 }
 
 impl Model for Keys {
@@ -36,15 +39,20 @@ impl Model for Keys {
     ghost coded = { coded_list key_code };
 
     ghost use Rattle.clone_values.specs.View.{key_tree_of};
+    ghost use Rattle.clone_values.specs.Held.{items_held};
 
-    ghost view = { λ a. map key_tree_of a.keys.items };
+    ghost view = { λ a. map key_tree_of (items_held a.keys) };
+
+    ghost use Rattle.idb_base.specs.Lists.{IsWithinLimit};
+
+    ghost invariant = { λ a. IsWithinLimit (map key_tree_of (items_held a.keys)) };
 
     ghost size = { λ ks. keys_size (key_trees_of ks) };
 
     ghost use Rattle.std.proofs.Common.{arith};
-    ghost use Rattle.clone_values.specs.Falls.{keys_fall};
+    ghost use Rattle.clone_values.specs.Falls.{held_keys_fall};
 
-    ghost size_decreases = { λ a h. omega (arith, keys_fall a.keys.items) };
+    ghost size_decreases = { λ a h. omega (arith, held_keys_fall a.keys a.alloc) };
 }
 
 impl Keys {
@@ -53,15 +61,28 @@ impl Keys {
         ensures { result ≡ [] }
     {
         Keys {
-            keys: Vec::new(alloc),
+            keys: Held::Empty,
+            alloc,
         }
+    }
+
+    /// The keys of a vector, in order.
+    pub fn from_vec(alloc: Global, keys: Vec<Key>) -> Result<Keys, NoMemory>
+        requires { IsWithinLimit keys.items }
+        ensures { IfOk result (λ l. l ≡ map key_tree_of keys.items) }
+    {
+        Ok(Keys {
+            keys: hold(alloc, keys)?,
+            alloc,
+        })
     }
 
     /// How many keys there are.
     pub fn len(&self) -> usize
-        ensures { result ≡ length self.now }
+        ensures count { result ≡ length self.now }
+        ensures short { IsWithinLimit self.now }
     {
-        self.keys.len()
+        slice(&self.keys).len()
     }
 
     /// The key at this place, counted from 0; `None` past the end.
@@ -70,47 +91,49 @@ impl Keys {
         ensures stands { IfSome result (λ x. StandsAt self.now place (key_tree_of x.now)) }
         ensures past_end { IfNone result (length self.now ≤ place) }
     {
-        self.keys.get(place)
+        slice(&self.keys).get(place)
     }
 
     /// Puts a key at the end.
     pub fn push(&mut self, item: Key) -> Result<(), NoMemory>
-        requires { HasRoom self.old }
+        requires { FitsOneMore self.old }
         ensures stored { OnOk result (self.new ≡ self.old ++ key_tree_of item ∷ []) }
         ensures unchanged { OnErr result (self.new ≡ self.old) }
     {
-        self.keys.push(item)?;
-        Ok(())
+        push(self.alloc, &mut self.keys, item)
     }
 }
 
 impl Key {
-    /// An equal key.
-    #[cycle(copy_key)]
-    #[tactic(auto, using(crate::specs::Falls::smaller_key))]
-    pub fn copy(&self, alloc: Global) -> Result<Key, NoMemory>
+    /// An equal key; it shares what the key holds.
+    pub fn copy(&self, _alloc: Global) -> Result<Key, NoMemory>
         ensures { IfOk result (λ r. r ≡ self.now) }
     {
+        Ok(self.clone()?)
+    }
+}
+
+impl Clone for Key {
+    ghost is_clone = { λ x y. y ≡ x };
+
+    fn clone(&self) -> Result<Key, AllocError> {
         match self {
             Key::Number(n) => Ok(Key::Number(*n)),
             Key::Date(d) => Ok(Key::Date(*d)),
-            Key::Text(s) => Ok(Key::Text(s.copy(alloc)?)),
-            Key::Binary(b) => Ok(Key::Binary(b.copy(alloc)?)),
-            Key::Array(keys) => Ok(Key::Array(copy_keys(alloc, keys)?)),
+            Key::Text(s) => Ok(Key::Text(s.clone()?)),
+            Key::Binary(b) => Ok(Key::Binary(b.clone()?)),
+            Key::Array(keys) => Ok(Key::Array(keys.clone()?)),
         }
     }
 }
 
-#[cycle(copy_key)]
-#[tactic(auto, using(crate::specs::Falls::smaller_key))]
-fn copy_keys(alloc: Global, keys: &Keys) -> Result<Keys, NoMemory>
-    ensures { IfOk result (λ r. r ≡ keys.now) }
-{
-    let mut copies = Keys::new(alloc);
-    for place in 0..keys.len() {
-        if let Some(key) = keys.at(place) {
-            copies.keys.push(key.copy(alloc)?)?;
-        }
+impl Clone for Keys {
+    ghost is_clone = { λ x y. y ≡ x };
+
+    fn clone(&self) -> Result<Keys, AllocError> {
+        Ok(Keys {
+            keys: share(&self.keys)?,
+            alloc: self.alloc,
+        })
     }
-    Ok(copies)
 }

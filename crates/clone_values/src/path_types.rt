@@ -1,7 +1,8 @@
 // What a key path is read from (Indexed Database API 3.0, 2.5).
 ghost use Rattle.std.specs.Prelude.{◌≡◌, IfOk};
 
-use crate::small_lists::{NoMemory, Text, Texts};
+use crate::small_lists::{Text, Texts};
+use idb_base::NoMemory;
 use std::alloc::Global;
 
 /// A key path as a script writes it: one string, or a list of strings.

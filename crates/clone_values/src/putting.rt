@@ -1,18 +1,22 @@
 // Putting members into Sets and Maps: a repeated primitive keeps its first place.
-ghost use Rattle.std.specs.Prelude.{◌≡◌, ℕ, ◌<◌, length, map, slice_set, vec_len, IsTrue, IsSome, IfSome, OnOk, OnErr, IsOk};
+ghost use Rattle.std.specs.Prelude.{◌≡◌, ℕ, ◌<◌, length, map, slice_set, vec_len, IsTrue, IfSome, OnOk, OnErr, IsOk};
 ghost use Rattle.std.specs.List.{list_any, position_from};
-ghost use Rattle.clone_values.specs.Limits.{HasRoom};
+ghost use Rattle.idb_base.specs.Lists.{FitsOneMore};
+ghost use Rattle.clone_values.specs.Held.{items_held};
 ghost use Rattle.clone_values.specs.View.{tree_of, pair_of};
 ghost use Rattle.clone_values.specs.Sameness.{is_primitive, repeats, put_once, put_pair};
 
+use crate::holding::{Held, own, push};
 use crate::sameness::is_same;
-use crate::small_lists::NoMemory;
 use crate::value_types::{Items, Pair, Pairs, Value};
+use idb_base::NoMemory;
+use std::alloc::Global;
+use std::sync::Arc;
 
 impl Items {
     /// Puts a member into a Set: a primitive that is there already stays where it is, and no memory is asked for.
     pub fn put_once(&mut self, value: Value) -> Result<(), NoMemory>
-        requires { HasRoom self.old }
+        requires { FitsOneMore self.old }
         ensures stored { OnOk result (self.new ≡ put_once self.old (tree_of value)) }
         ensures repeated { IsTrue (list_any (λ s. repeats s (tree_of value)) self.old) → IsOk result }
         ensures unchanged { OnErr result (self.new ≡ self.old) }
@@ -28,20 +32,13 @@ impl Pairs {
     /// Puts an entry into a Map: a primitive key that is there already keeps its place and takes the value, and no
     /// memory is asked for.
     pub fn put(&mut self, key: Value, value: Value) -> Result<(), NoMemory>
-        requires { HasRoom self.old }
+        requires { FitsOneMore self.old }
         ensures stored { OnOk result (self.new ≡ put_pair self.old (tree_of key) (tree_of value)) }
-        ensures repeated { IsSome (position_from (λ p. repeats p.0 (tree_of key)) 0 self.old) → IsOk result }
         ensures unchanged { OnErr result (self.new ≡ self.old) }
     {
         match place_of_key(self, &key) {
-            Some(place) => {
-                replace_pair(&mut self.pairs, place, Pair { key, value });
-                Ok(())
-            }
-            None => {
-                self.pairs.push(Pair { key, value })?;
-                Ok(())
-            }
+            Some(place) => replace_held(self.alloc, &mut self.pairs, place, Pair { key, value }),
+            None => push(self.alloc, &mut self.pairs, Pair { key, value }),
         }
     }
 }
@@ -86,6 +83,27 @@ fn is_primitive(v: &Value) -> bool
         Value::Undefined | Value::Null | Value::Bool(_) | Value::Int(_) | Value::Text(_) => true,
         _ => false,
     }
+}
+
+fn replace_held(
+    alloc: Global,
+    pairs: &mut Held<Pair>,
+    place: usize,
+    pair: Pair,
+) -> Result<(), NoMemory>
+    requires { place < length (items_held pairs.old) }
+    ensures replaced { OnOk result (map pair_of (items_held pairs.new)
+        ≡ slice_set (map pair_of (items_held pairs.old)) place (pair_of pair)) }
+    ensures unchanged { OnErr result (items_held pairs.new ≡ items_held pairs.old) }
+{
+    own(alloc, pairs)?;
+    if let Held::Shared(shared) = pairs {
+        if let Some(own) = Arc::get_mut(shared) {
+            replace_pair(own, place, pair);
+            return Ok(());
+        }
+    }
+    Err(NoMemory)
 }
 
 fn replace_pair(pairs: &mut Vec<Pair>, place: usize, pair: Pair)

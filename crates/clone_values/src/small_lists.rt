@@ -1,38 +1,88 @@
-// Texts, byte strings and lists of numbers: small types over `String` and `Vec` that contracts see as lists.
-ghost use Rattle.std.specs.Prelude.{◌≡◌, ℕ, ◌≤◌, List, [], ◌∷◌, ◌++◌, length, string_bytes, slice_get, IfSome, IfNone, OnOk, OnErr, IfOk};
+// Texts, lists of texts and byte strings. Contracts see them as lists; none is longer than the greatest length.
+ghost use Rattle.std.specs.Prelude.{◌≡◌, ℕ, ◌≤◌, List, [], ◌∷◌, ◌++◌, length, string_bytes, slice_get, nat_eq, refl, Some, IfSome, IfNone, OnOk, OnErr, IfOk};
+ghost use Rattle.std.specs.Arc.{arc_value};
+ghost use Rattle.std.specs.Cmp.{partial_equiv_from_equiv};
+ghost use Rattle.std.specs.Cmp.Lexicographic.{pointwise, slice_cmp, nat_list_eq_equiv, nat_list_cmp_total, texts_ties, texts_po};
 ghost use Rattle.std.specs.Option.{option_copied};
+ghost use Rattle.std.specs.Ordering.{nat_cmp};
 ghost use Rattle.std.specs.Str.{IsUtf8};
-ghost use Rattle.clone_values.specs.Limits.{IsWithinLimit, HasRoom, StandsAt};
+ghost use Rattle.idb_base.specs.Lists.{IsWithinLimit, FitsOneMore, StandsAt};
+ghost use Rattle.clone_values.specs.Held.{items_held};
 
-use std::alloc::{AllocError, AllocFailed, Global};
+use crate::holding::{Held, hold, push, share, slice};
+use idb_base::{Listed, NoMemory};
+use std::alloc::{AllocError, Global};
+use std::cmp::Ordering;
 use std::marker::Model;
+use std::sync::Arc;
 
-/// Memory ran out. What the call would have changed is as it was.
-#[derive(Clone, Copy, Debug, PartialEq, Eq)]
-pub struct NoMemory;
+/// A list of numbers.
+pub type Numbers = Listed<u64>;
 
-impl From<AllocError> for NoMemory {
-    fn from(_e: AllocError) -> NoMemory {
-        NoMemory
-    }
-}
-
-impl<T: Drop> From<AllocFailed<T>> for NoMemory {
-    fn from(_e: AllocFailed<T>) -> NoMemory {
-        NoMemory
-    }
-}
-
-/// Unicode text; contracts see its UTF-8 bytes.
+/// Unicode text, which its copies share; contracts see its UTF-8 bytes, by which texts compare.
 #[derive(Debug, Drop)]
 pub struct Text {
-    text: String,
+    text: Arc<String>,
 }
 
 impl Model for Text {
+    ghost use Rattle.std.specs.Prelude.{ℕ, List, string_bytes};
+    ghost use Rattle.std.specs.Arc.{arc_value};
+    ghost use Rattle.idb_base.specs.Lists.{IsWithinLimit};
+
     ghost Value = { List ℕ };
 
-    ghost view = { λ a. string_bytes a.text };
+    ghost view = { λ a. string_bytes (arc_value a.text) };
+
+    ghost invariant = { λ a. IsWithinLimit (string_bytes (arc_value a.text)) };
+}
+
+impl Clone for Text {
+    ghost is_clone = { λ x y. y ≡ x };
+
+    fn clone(&self) -> Result<Text, AllocError> {
+        Ok(Text {
+            text: Arc::try_clone(&self.text)?,
+        })
+    }
+}
+
+impl PartialEq for Text {
+    ghost eq = { pointwise nat_eq };
+
+    ghost laws = { partial_equiv_from_equiv nat_list_eq_equiv };
+
+    fn eq(&self, other: &Text) -> bool {
+        self.as_str() == other.as_str()
+    }
+}
+
+impl Eq for Text {
+    ghost laws = { nat_list_eq_equiv };
+}
+
+impl PartialOrd for Text {
+    ghost partial_cmp = { λ x y. Some (slice_cmp nat_cmp x y) };
+
+    ghost laws = { texts_po };
+
+    fn partial_cmp(&self, other: &Text) -> Option<Ordering> {
+        Some(self.cmp(other))
+    }
+}
+
+impl Ord for Text {
+    ghost cmp = { slice_cmp nat_cmp };
+
+    ghost total = { nat_list_cmp_total };
+
+    ghost matches_partial_cmp = { λ x y. refl };
+
+    ghost matches_eq = { texts_ties };
+
+    fn cmp(&self, other: &Text) -> Ordering {
+        self.as_str().cmp(other.as_str())
+    }
 }
 
 impl Text {
@@ -41,38 +91,31 @@ impl Text {
         requires { IsWithinLimit s.now }
         ensures { IfOk result (λ t. t ≡ s.now) }
     {
+        Text::from_string(alloc, String::from_str(alloc, s)?)
+    }
+
+    /// The text that the string holds.
+    pub fn from_string(alloc: Global, text: String) -> Result<Text, NoMemory>
+        requires { IsWithinLimit (string_bytes text) }
+        ensures { IfOk result (λ t. t ≡ string_bytes text) }
+    {
         Ok(Text {
-            text: String::from_str(alloc, s)?,
+            text: Arc::new(alloc, text)?,
         })
     }
 
-    /// The text that the string holds; it takes no memory.
-    pub fn from_string(text: String) -> Text
-        ensures { result ≡ string_bytes text }
-    {
-        Text { text }
-    }
-
-    /// The string with the same characters; it takes no memory.
-    pub fn into_string(self) -> String
-        ensures { string_bytes result ≡ self }
-    {
-        self.text
-    }
-
-    /// An equal text.
-    pub fn copy(&self, alloc: Global) -> Result<Text, NoMemory>
+    /// An equal text; it shares the characters.
+    pub fn copy(&self, _alloc: Global) -> Result<Text, NoMemory>
         ensures { IfOk result (λ t. t ≡ self.now) }
     {
-        Ok(Text {
-            text: String::from_str(alloc, self.text.as_str())?,
-        })
+        Ok(self.clone()?)
     }
 
     /// The characters.
     pub fn as_str(&self) -> &str
         ensures value { result.now ≡ self.now }
         ensures utf8 { IsUtf8 self.now }
+        ensures short { IsWithinLimit self.now }
     {
         self.text.as_str()
     }
@@ -81,13 +124,18 @@ impl Text {
 /// A list of texts.
 #[derive(Debug, Drop)]
 pub struct Texts {
-    texts: Vec<Text>,
+    texts: Listed<Text>,
 }
 
 impl Model for Texts {
+    ghost use Rattle.std.specs.Prelude.{ℕ, List};
+    ghost use Rattle.idb_base.specs.Lists.{IsWithinLimit};
+
     ghost Value = { List (List ℕ) };
 
-    ghost view = { λ a. a.texts.items };
+    ghost view = { λ a. a.texts };
+
+    ghost invariant = { λ a. IsWithinLimit a.texts };
 }
 
 impl Texts {
@@ -96,27 +144,31 @@ impl Texts {
         ensures { result ≡ [] }
     {
         Texts {
-            texts: Vec::new(alloc),
+            texts: Listed::new(alloc),
         }
     }
 
     /// The texts of a vector, in order. It takes no memory.
     pub fn from_vec(texts: Vec<Text>) -> Texts
+        requires { IsWithinLimit texts.items }
         ensures { result ≡ texts.items }
     {
-        Texts { texts }
+        Texts {
+            texts: Listed::from_vec(texts),
+        }
     }
 
     /// The texts as a vector, in order. It takes no memory.
     pub fn into_vec(self) -> Vec<Text>
         ensures { result.items ≡ self }
     {
-        self.texts
+        self.texts.into_vec()
     }
 
     /// How many texts there are.
     pub fn len(&self) -> usize
-        ensures { result ≡ length self.now }
+        ensures count { result ≡ length self.now }
+        ensures short { IsWithinLimit self.now }
     {
         self.texts.len()
     }
@@ -127,41 +179,56 @@ impl Texts {
         ensures stands { IfSome result (λ x. StandsAt self.now place x.now) }
         ensures past_end { IfNone result (length self.now ≤ place) }
     {
-        self.texts.get(place)
+        self.texts.at(place)
     }
 
     /// Puts a text at the end.
     pub fn push(&mut self, item: Text) -> Result<(), NoMemory>
-        requires { HasRoom self.old }
+        requires { FitsOneMore self.old }
         ensures stored { OnOk result (self.new ≡ self.old ++ item ∷ []) }
         ensures unchanged { OnErr result (self.new ≡ self.old) }
     {
-        self.texts.push(item)?;
-        Ok(())
+        self.texts.push(item)
     }
 
     /// An equal list.
     pub fn copy(&self, alloc: Global) -> Result<Texts, NoMemory>
         ensures { IfOk result (λ t. t ≡ self.now) }
     {
-        let mut copies = Vec::new(alloc);
-        for text in &self.texts {
-            copies.push(text.copy(alloc)?)?;
-        }
-        Ok(Texts { texts: copies })
+        Ok(Texts {
+            texts: self.texts.copy(alloc)?,
+        })
     }
 }
 
-/// A byte string.
+/// A byte string, which its copies share.
 #[derive(Debug, Drop)]
 pub struct Bytes {
-    bytes: Vec<u8>,
+    bytes: Held<u8>,
+    alloc: Global,
 }
 
 impl Model for Bytes {
+    ghost use Rattle.std.specs.Prelude.{ℕ, List};
+    ghost use Rattle.idb_base.specs.Lists.{IsWithinLimit};
+    ghost use Rattle.clone_values.specs.Held.{items_held};
+
     ghost Value = { List ℕ };
 
-    ghost view = { λ a. a.bytes.items };
+    ghost view = { λ a. items_held a.bytes };
+
+    ghost invariant = { λ a. IsWithinLimit (items_held a.bytes) };
+}
+
+impl Clone for Bytes {
+    ghost is_clone = { λ x y. y ≡ x };
+
+    fn clone(&self) -> Result<Bytes, AllocError> {
+        Ok(Bytes {
+            bytes: share(&self.bytes)?,
+            alloc: self.alloc,
+        })
+    }
 }
 
 impl Bytes {
@@ -170,29 +237,28 @@ impl Bytes {
         ensures { result ≡ [] }
     {
         Bytes {
-            bytes: Vec::new(alloc),
+            bytes: Held::Empty,
+            alloc,
         }
     }
 
-    /// The bytes of a vector, in order. It takes no memory.
-    pub fn from_vec(bytes: Vec<u8>) -> Bytes
-        ensures { result ≡ bytes.items }
+    /// The bytes of a vector, in order.
+    pub fn from_vec(alloc: Global, bytes: Vec<u8>) -> Result<Bytes, NoMemory>
+        requires { IsWithinLimit bytes.items }
+        ensures { IfOk result (λ b. b ≡ bytes.items) }
     {
-        Bytes { bytes }
-    }
-
-    /// The bytes as a vector, in order. It takes no memory.
-    pub fn into_vec(self) -> Vec<u8>
-        ensures { result.items ≡ self }
-    {
-        self.bytes
+        Ok(Bytes {
+            bytes: hold(alloc, bytes)?,
+            alloc,
+        })
     }
 
     /// How many bytes there are.
     pub fn len(&self) -> usize
-        ensures { result ≡ length self.now }
+        ensures count { result ≡ length self.now }
+        ensures short { IsWithinLimit self.now }
     {
-        self.bytes.len()
+        slice(&self.bytes).len()
     }
 
     /// The byte at this place, counted from 0; `None` past the end.
@@ -201,94 +267,30 @@ impl Bytes {
         ensures stands { IfSome result (λ x. StandsAt self.now place x.now) }
         ensures past_end { IfNone result (length self.now ≤ place) }
     {
-        self.bytes.get(place)
+        slice(&self.bytes).get(place)
     }
 
     /// Puts a byte at the end.
     pub fn push(&mut self, item: u8) -> Result<(), NoMemory>
-        requires { HasRoom self.old }
+        requires { FitsOneMore self.old }
         ensures stored { OnOk result (self.new ≡ self.old ++ item ∷ []) }
         ensures unchanged { OnErr result (self.new ≡ self.old) }
     {
-        self.bytes.push(item)?;
-        Ok(())
+        push(self.alloc, &mut self.bytes, item)
     }
 
-    /// An equal byte string.
-    pub fn copy(&self, alloc: Global) -> Result<Bytes, NoMemory>
+    /// An equal byte string; it shares the bytes.
+    pub fn copy(&self, _alloc: Global) -> Result<Bytes, NoMemory>
         ensures { IfOk result (λ b. b ≡ self.now) }
     {
-        Ok(Bytes {
-            bytes: Vec::from_slice(alloc, self.bytes.as_slice())?,
-        })
+        Ok(self.clone()?)
     }
 
     /// All bytes in order.
     pub fn as_slice(&self) -> &[u8]
-        ensures { result.now ≡ self.now }
+        ensures value { result.now ≡ self.now }
+        ensures short { IsWithinLimit self.now }
     {
-        self.bytes.as_slice()
-    }
-}
-
-/// A list of numbers.
-#[derive(Debug, Drop)]
-pub struct Numbers {
-    numbers: Vec<u64>,
-}
-
-impl Model for Numbers {
-    ghost Value = { List ℕ };
-
-    ghost view = { λ a. a.numbers.items };
-}
-
-impl Numbers {
-    /// The empty list; it takes no memory.
-    pub fn new(alloc: Global) -> Self
-        ensures { result ≡ [] }
-    {
-        Numbers {
-            numbers: Vec::new(alloc),
-        }
-    }
-
-    /// The numbers of a vector, in order. It takes no memory.
-    pub fn from_vec(numbers: Vec<u64>) -> Numbers
-        ensures { result ≡ numbers.items }
-    {
-        Numbers { numbers }
-    }
-
-    /// The numbers as a vector, in order. It takes no memory.
-    pub fn into_vec(self) -> Vec<u64>
-        ensures { result.items ≡ self }
-    {
-        self.numbers
-    }
-
-    /// How many numbers there are.
-    pub fn len(&self) -> usize
-        ensures { result ≡ length self.now }
-    {
-        self.numbers.len()
-    }
-
-    /// The number at this place, counted from 0; `None` past the end.
-    pub fn at(&self, place: usize) -> Option<&u64>
-        ensures item { option_copied result ≡ slice_get self.now place }
-        ensures stands { IfSome result (λ x. StandsAt self.now place x.now) }
-        ensures past_end { IfNone result (length self.now ≤ place) }
-    {
-        self.numbers.get(place)
-    }
-
-    /// Puts a number at the end.
-    pub fn push(&mut self, item: u64) -> Result<(), NoMemory>
-        ensures stored { OnOk result (self.new ≡ self.old ++ item ∷ []) }
-        ensures unchanged { OnErr result (self.new ≡ self.old) }
-    {
-        self.numbers.push(item)?;
-        Ok(())
+        slice(&self.bytes)
     }
 }

@@ -1,15 +1,33 @@
 use super::*;
+use idb_base::{GREATEST_LENGTH, NoMemory};
 use std::alloc::Global;
-use std::process::Abort;
-use std::test::Fail;
+use std::fmt::Write;
 
-fn text(alloc: Global, s: &str) -> Result<Text, Fail> {
-    Ok(Text::from_string(String::from_str(alloc, s)?))
+fn text(alloc: Global, s: &str) -> Result<Text, NoMemory> {
+    if s.len() > GREATEST_LENGTH {
+        return Err(NoMemory);
+    }
+    Text::copy_of(alloc, s)
 }
 
-/// Arrays nested so deep, the innermost one empty.
-fn nested(alloc: Global, depth: u32) -> Result<Value, Fail> {
-    let mut value = Value::Array(Items::new(alloc), Props::new(alloc));
+/// A value to be made.
+#[derive(Drop)]
+enum Made {
+    Int(i64),
+    Date(i64),
+    Function,
+    /// Arrays nested so deep, the innermost one empty.
+    Nested(u32),
+    /// The same, with a Function innermost.
+    AroundFunction(u32),
+    /// A Set with null twice, pushed and not put.
+    NullTwice,
+    /// An Array with a property of this name.
+    Named(&'static str),
+}
+
+fn nested(alloc: Global, depth: u32, innermost: Value) -> Result<Value, NoMemory> {
+    let mut value = innermost;
     for _ in 1..depth {
         let mut items = Items::new(alloc);
         items.push(value)?;
@@ -18,310 +36,320 @@ fn nested(alloc: Global, depth: u32) -> Result<Value, Fail> {
     Ok(value)
 }
 
-/// The array of 1 and a Function.
-fn one_and_function(alloc: Global) -> Result<Value, Fail> {
+fn named(alloc: Global, name: &str) -> Result<Value, NoMemory> {
+    let mut props = Props::new(alloc);
+    props.set(text(alloc, name)?, Value::Null)?;
+    Ok(Value::Array(Items::new(alloc), props))
+}
+
+fn null_twice(alloc: Global) -> Result<Value, NoMemory> {
     let mut items = Items::new(alloc);
-    items.push(Value::Int(1))?;
-    items.push(Value::Function)?;
-    Ok(Value::Array(items, Props::new(alloc)))
+    items.push(Value::Null)?;
+    items.push(Value::Null)?;
+    Ok(Value::Set(items))
+}
+
+fn value_of(alloc: Global, it: &Made) -> Result<Value, NoMemory> {
+    match it {
+        Made::Int(n) => Ok(Value::Int(*n)),
+        Made::Date(d) => Ok(Value::Date(*d)),
+        Made::Function => Ok(Value::Function),
+        Made::Nested(depth) => nested(
+            alloc,
+            *depth,
+            Value::Array(Items::new(alloc), Props::new(alloc)),
+        ),
+        Made::AroundFunction(depth) => nested(alloc, *depth, Value::Function),
+        Made::NullTwice => null_twice(alloc),
+        Made::Named(name) => named(alloc, name),
+    }
+}
+
+/// Writes what is told of a value: its depth, `w` if well formed, `c` if cloned, `=` if the copy is equal to it.
+fn told(alloc: Global, said: &mut String, it: &Made) -> Result<(), NoMemory> {
+    let value = value_of(alloc, it)?;
+    let _ = write!(said, "{}", depth(&value));
+    if well_formed(&value) {
+        let _ = said.push('w');
+    }
+    if clone_value(alloc, &value).is_ok() {
+        let _ = said.push('c');
+    }
+    if same_value(&copy_value(alloc, &value)?, &value) {
+        let _ = said.push('=');
+    }
+    let _ = said.push(' ');
+    Ok(())
+}
+
+/// The ends of the ranges, depth 100, Functions, members that stand twice and the names of an Array's properties.
+#[test]
+fn what_is_told_of_values(rt: HostRuntime) {
+    let values = [
+        Made::Int(9_007_199_254_740_992),
+        Made::Int(9_007_199_254_740_993),
+        Made::Int(-9_007_199_254_740_992),
+        Made::Int(-9_007_199_254_740_993),
+        Made::Date(8_640_000_000_000_000),
+        Made::Date(8_640_000_000_000_001),
+        Made::Date(-8_640_000_000_000_000),
+        Made::Date(-8_640_000_000_000_001),
+        Made::Function,
+        Made::AroundFunction(2),
+        Made::Nested(1),
+        Made::Nested(100),
+        Made::Nested(101),
+        Made::NullTwice,
+        Made::Named("length"),
+        Made::Named("0"),
+        Made::Named("17"),
+        Made::Named(""),
+        Made::Named("1a"),
+        Made::Named("lengths"),
+    ];
+    let mut said = String::new(rt.alloc());
+    let mut is_done = true;
+    for it in &values {
+        is_done = is_done && told(rt.alloc(), &mut said, it).is_ok();
+    }
+    assert!(rt;
+        is_done
+            && said.as_str()
+                == "1wc= 1c= 1wc= 1c= 1wc= 1c= 1wc= 1c= 1w= 2w= 1wc= 100wc= 101w= 2c= 2c= 2c= 2c= 2wc= 2wc= 2wc= "
+    );
+}
+
+/// A change of properties, or a question.
+#[derive(Drop)]
+enum Step {
+    Set(&'static str, i64),
+    Find(&'static str),
+    Place(&'static str),
+    Replace(usize, i64),
+    All,
+}
+
+/// Makes one step, and writes what it answered.
+fn make(alloc: Global, props: &mut Props, said: &mut String, step: &Step) -> Result<(), NoMemory> {
+    match step {
+        Step::Set(name, n) => {
+            if props.len() < GREATEST_LENGTH {
+                props.set(text(alloc, name)?, Value::Int(*n))?;
+            }
+        }
+        Step::Find(name) => match props.find(name) {
+            Some(Value::Int(n)) => {
+                let _ = write!(said, "={n}");
+            }
+            _ => {
+                let _ = write!(said, "=none");
+            }
+        },
+        Step::Place(name) => match props.place_of(name) {
+            Ok(place) => {
+                let _ = write!(said, "@{place}");
+            }
+            Err(place) => {
+                let _ = write!(said, "<{place}");
+            }
+        },
+        Step::Replace(place, n) => {
+            if *place < props.len() {
+                if let Value::Int(old) = props.replace(*place, Value::Int(*n))? {
+                    let _ = write!(said, "-{old}");
+                }
+            }
+        }
+        Step::All => show(props, said),
+    }
+    Ok(())
+}
+
+fn show(props: &Props, said: &mut String) {
+    for place in 0..props.len() {
+        if let Some(
+            Prop {
+                name,
+                value: Value::Int(n),
+            },
+        ) = props.at(place)
+        {
+            let _ = write!(said, "{}:{n},", name.as_str());
+        }
+    }
+}
+
+/// Names rise by their bytes; a name that is there is replaced; a place is where a name stands or would stand.
+#[test]
+fn properties_stand_by_name(rt: HostRuntime) {
+    let steps = [
+        Step::Set("b", 1),
+        Step::Set("a", 2),
+        Step::Set("\u{10000}", 6),
+        Step::Set("\u{ff61}", 3),
+        Step::Set("b", 4),
+        Step::Set("", 5),
+        Step::All,
+        Step::Find("b"),
+        Step::Find("d"),
+        Step::Place("a"),
+        Step::Place("aa"),
+        Step::Place("\u{ff61}"),
+        Step::Place("\u{10001}"),
+        Step::Replace(1, 9),
+        Step::Replace(5, 9),
+        Step::Find("a"),
+    ];
+    let mut props = Props::new(rt.alloc());
+    let mut said = String::new(rt.alloc());
+    let mut is_done = true;
+    for step in &steps {
+        is_done = is_done && make(rt.alloc(), &mut props, &mut said, step).is_ok();
+    }
+    assert!(rt;
+        is_done && said.as_str() == ":5,a:2,b:4,\u{ff61}:3,\u{10000}:6,=4=none@1<2@3<5-2=9"
+    );
+}
+
+/// The names of numbers, in falling order, and some of them once more.
+fn fallen(alloc: Global, count: u32, again: u32) -> Result<Props, NoMemory> {
+    let mut props = Vec::new(alloc);
+    for n in 0..count.saturating_add(again) {
+        let number = if n < count { count - n } else { n - count };
+        let mut name = String::new(alloc);
+        let _ = write!(name, "{number:06}");
+        props.push(Prop {
+            name: text(alloc, name.as_str())?,
+            value: Value::Int(i64::from(n)),
+        })?;
+    }
+    if props.len() > GREATEST_LENGTH {
+        return Err(NoMemory);
+    }
+    Props::from_unsorted(alloc, props)
+}
+
+/// Properties of a vector are sorted, the last of a name stands, and many take the time of a sort.
+#[test]
+fn properties_come_unsorted(rt: HostRuntime) {
+    let mut said = String::new(rt.alloc());
+    if let Ok(props) = fallen(rt.alloc(), 3, 3) {
+        show(&props, &mut said);
+    }
+    if let Ok(props) = fallen(rt.alloc(), 100_000, 0) {
+        let _ = write!(said, " {}", props.len());
+    }
+    assert!(rt; said.as_str() == "000000:3,000001:4,000002:5,000003:0, 100000");
+}
+
+/// Puts a number into a Set, and with what it brings into a Map.
+fn put(members: &mut Items, entries: &mut Pairs, n: i64, brings: i64) -> Result<(), NoMemory> {
+    if members.len() < GREATEST_LENGTH && entries.len() < GREATEST_LENGTH {
+        members.put_once(Value::Int(n))?;
+        entries.put(Value::Int(n), Value::Int(brings))?;
+    }
+    Ok(())
+}
+
+fn show_members(members: &Items, entries: &Pairs, said: &mut String) {
+    for place in 0..members.len() {
+        if let Some(Value::Int(n)) = members.at(place) {
+            let _ = write!(said, "{n},");
+        }
+    }
+    for place in 0..entries.len() {
+        if let Some(
+            Pair {
+                key: Value::Int(n),
+                value: Value::Int(brings),
+            },
+        ) = entries.at(place)
+        {
+            let _ = write!(said, " {n}:{brings}");
+        }
+    }
+}
+
+/// A repeated primitive keeps its first place, and a Map takes the last value; a copy stays as it was.
+#[test]
+fn members_stand_once(rt: HostRuntime) {
+    let mut members = Items::new(rt.alloc());
+    let mut entries = Pairs::new(rt.alloc());
+    let mut said = String::new(rt.alloc());
+    let mut is_done = true;
+    for (n, brings) in [(1, 10), (2, 20), (1, 11)] {
+        is_done = is_done && put(&mut members, &mut entries, n, brings).is_ok();
+    }
+    let copied: Result<_, _> = members.clone();
+    let mapped: Result<_, _> = entries.clone();
+    is_done = is_done && put(&mut members, &mut entries, 2, 21).is_ok();
+    is_done = is_done && put(&mut members, &mut entries, 3, 30).is_ok();
+    show_members(&members, &entries, &mut said);
+    if let (Ok(members), Ok(entries)) = (&copied, &mapped) {
+        said.push_str("; ").is_ok();
+        show_members(members, entries, &mut said);
+    }
+    assert!(rt; is_done && said.as_str() == "1,2,3, 1:11 2:21 3:30; 1,2, 1:11 2:20");
+}
+
+/// Makes each list of texts, bytes, numbers and keys, from a vector and by pushing, and writes what stands there.
+fn lists(alloc: Global, said: &mut String) -> Result<(), NoMemory> {
+    let mut texts = Texts::from_vec(vec![in alloc; text(alloc, "grün")?]?);
+    texts.push(text(alloc, "")?)?;
+    if let PathSpec::Many(copied) = PathSpec::Many(texts).copy(alloc)? {
+        let _ = write!(said, "{}", copied.len());
+        for text in copied.into_vec() {
+            let _ = write!(said, "{},", text.as_str());
+        }
+    }
+    let mut bytes = Bytes::from_vec(alloc, vec![in alloc; 7]?)?;
+    bytes.push(8)?;
+    for byte in bytes.copy(alloc)?.as_slice() {
+        let _ = write!(said, "{byte},");
+    }
+    let _ = write!(said, "{:?}{:?}", bytes.at(1), bytes.at(2));
+    let mut numbers = Numbers::new(alloc);
+    numbers.push(u64::MAX)?;
+    let _ = write!(said, "{:?}", numbers.at(0));
+    let mut keys = Keys::from_vec(alloc, vec![in alloc; Key::Number(-3)]?)?;
+    keys.push(Key::Date(4))?;
+    if let Key::Array(copied) = Key::Array(keys).copy(alloc)? {
+        if let (Some(Key::Number(n)), Some(Key::Date(d)), None) = (
+            copied.at(0),
+            copied.at(1),
+            copied.at(2),
+        ) {
+            let _ = write!(said, "{n},{d}");
+        }
+    }
+    Ok(())
 }
 
 /// One item of each kind of list, and nothing past the end.
 #[test]
-fn lists_keep_what_was_pushed(rt: HostRuntime) -> Result<(), Fail> {
-    let long = Text::copy_of(rt.alloc(), "grün")?;
-    assert_eq!(rt; long.copy(rt.alloc())?.as_str(), "grün");
-    let mut texts = Texts::new(rt.alloc());
-    texts.push(long)?;
-    let copy = texts.copy(rt.alloc())?;
-    assert_eq!(rt; (texts.len(), copy.len()), (1, 1));
-    assert_eq!(rt; copy.at(0).map(|t| t.as_str().len()), Some(5));
-    assert!(rt; texts.at(1).is_none());
-
-    let mut bytes = Bytes::new(rt.alloc());
-    bytes.push(7)?;
-    assert_eq!(rt; bytes.copy(rt.alloc())?.as_slice(), [7].as_slice());
-    assert_eq!(rt;
-        (bytes.len(), bytes.at(0).copied(), bytes.at(1).copied()),
-        (1, Some(7), None)
-    );
-
-    let mut numbers = Numbers::new(rt.alloc());
-    numbers.push(u64::MAX)?;
-    assert_eq!(rt;
-        (
-            numbers.len(),
-            numbers.at(0).copied(),
-            numbers.at(1).copied()
-        ),
-        (1, Some(u64::MAX), None)
-    );
-
-    let mut keys = Keys::new(rt.alloc());
-    keys.push(Key::Number(-3))?;
-    assert_eq!(rt; keys.len(), 1);
-    let copy = Key::Array(keys).copy(rt.alloc())?;
-    assert!(rt;
-        matches!(&copy, Key::Array(keys) if matches!(keys.at(0), Some(Key::Number(-3))) && keys.at(1).is_none())
-    );
-
-    let spec = PathSpec::Many(texts).copy(rt.alloc())?;
-    assert!(rt; matches!(&spec, PathSpec::Many(strings) if strings.len() == 1));
-    Ok(())
+fn lists_keep_what_was_pushed(rt: HostRuntime) {
+    let mut said = String::new(rt.alloc());
+    let is_done = lists(rt.alloc(), &mut said).is_ok();
+    assert!(rt; is_done && said.as_str() == "2grün,,7,8,Some(8)NoneSome(18446744073709551615)-3,4");
 }
 
-/// The value's depth, that a clone is equal or refused, and that a copy is equal.
-fn clones(
-    rt: &impl Abort,
-    alloc: Global,
-    value: &Value,
-    depth_is: u32,
-    cloned: bool,
-) -> Result<(), Fail> {
-    assert_eq!(rt; depth(value), depth_is);
-    match clone_value(alloc, value) {
-        Ok(copy) => assert!(rt; cloned && same_value(value, &copy), "at {depth_is}"),
-        Err(error) => assert!(rt; !cloned && error == CloneError::DataClone, "at {depth_is}"),
-    }
-    assert!(rt; same_value(&copy_value(alloc, value)?, value));
-    Ok(())
+/// A value may be shared by threads.
+fn is_shared<T: Send + Sync>(_v: &T) -> bool {
+    true
 }
 
-/// What is cloned, what is refused, and that a copy is the same tree, Functions included.
+#[derive(Drop)]
+struct Seat {
+    value: Value,
+    key: Key,
+}
+
+/// Values and keys may be sent to other threads, and shared with them.
 #[test]
-fn clones_to_depth_100_without_functions(rt: HostRuntime) -> Result<(), Fail> {
-    clones(&rt, rt.alloc(), &Value::Undefined, 1, true)?;
-    clones(&rt, rt.alloc(), &Value::Function, 1, false)?;
-    clones(&rt, rt.alloc(), &nested(rt.alloc(), 1)?, 1, true)?;
-    clones(&rt, rt.alloc(), &one_and_function(rt.alloc())?, 2, false)?;
-    clones(&rt, rt.alloc(), &nested(rt.alloc(), 100)?, 100, true)?;
-    clones(&rt, rt.alloc(), &nested(rt.alloc(), 101)?, 101, false)?;
-    let mut members = Items::new(rt.alloc());
-    members.push(Value::Function)?;
-    clones(&rt, rt.alloc(), &Value::Set(members), 2, false)?;
-    assert!(rt; !same_value(&nested(rt.alloc(), 2)?, &nested(rt.alloc(), 3)?));
-    Ok(())
-}
-
-/// Names rise by their bytes; a name that is there is replaced.
-#[test]
-fn properties_stand_by_name(rt: HostRuntime) -> Result<(), Fail> {
-    let mut props = Props::new(rt.alloc());
-    for (place, (name, number)) in [("b", 1), ("a", 2), ("c", 3), ("b", 4), ("", 5)]
-        .into_iter()
-        .enumerate()
-    {
-        assert!(rt; props.len() <= place);
-        props.set(text(rt.alloc(), name)?, Value::Int(number))?;
-    }
-    for (place, (name, number)) in [("", 5), ("a", 2), ("b", 4), ("c", 3)]
-        .into_iter()
-        .enumerate()
-    {
-        assert!(rt;
-            matches!(props.at(place), Some(prop) if prop.name.as_str() == name),
-            "{name}"
-        );
-        assert!(rt;
-            matches!(props.get(&text(rt.alloc(), name)?), Some(Value::Int(n)) if *n == number),
-            "{name}"
-        );
-    }
-    assert_eq!(rt; props.len(), 4);
-    assert!(rt; props.get(&text(rt.alloc(), "d")?).is_none());
-    assert!(rt; well_formed(&Value::Object(props)));
-    names_of_arrays(&rt, rt.alloc())
-}
-
-/// Which names the property of an Array may have.
-fn names_of_arrays(rt: &impl Abort, alloc: Global) -> Result<(), Fail> {
-    for (name, may_stand) in [
-        ("length", false),
-        ("0", false),
-        ("17", false),
-        ("", true),
-        ("1a", true),
-        ("lengths", true),
-    ] {
-        let mut props = Props::new(alloc);
-        props.set(text(alloc, name)?, Value::Null)?;
-        assert_eq!(rt;
-            well_formed(&Value::Array(Items::new(alloc), props)),
-            may_stand,
-            "{name}"
-        );
-    }
-    Ok(())
-}
-
-/// A name is found by its place, and where it isn't there, the place is where it would stand.
-#[test]
-fn names_are_found_by_their_places(rt: HostRuntime) -> Result<(), Fail> {
-    let mut props = Props::new(rt.alloc());
-    for (number, name) in ["a", "b", "d", "\u{ff61}", "\u{10000}"]
-        .into_iter()
-        .enumerate()
-    {
-        assert!(rt; props.len() <= number);
-        props.set(text(rt.alloc(), name)?, Value::Int(number as i64))?;
-    }
-    for (name, found) in [
-        ("", Err(0)),
-        ("a", Ok(0)),
-        ("aa", Err(1)),
-        ("b", Ok(1)),
-        ("c", Err(2)),
-        ("d", Ok(2)),
-        ("\u{ff61}", Ok(3)),
-        ("\u{10000}", Ok(4)),
-        ("\u{10001}", Err(5)),
-    ] {
-        assert_eq!(rt; place_in(&props, name), found, "{name}");
-        assert_eq!(rt; finds(&props, name), found.is_ok(), "{name}");
-    }
-    assert!(rt; matches!(replaced(&mut props, 2, Value::Null), Some(Value::Int(2))));
-    assert!(rt; matches!(props.find("d"), Some(Value::Null)));
-    assert!(rt; matches!(replaced(&mut props, 5, Value::Null), None));
-    Ok(())
-}
-
-fn place_in(props: &Props, name: &str) -> Result<usize, usize> {
-    props.place_of(name)
-}
-
-fn finds(props: &Props, name: &str) -> bool {
-    props.find(name).is_some()
-}
-
-fn replaced(props: &mut Props, place: usize, value: Value) -> Option<Value> {
-    if place < props.len() {
-        Some(props.replace(place, value))
-    } else {
-        None
-    }
-}
-
-fn items_again(alloc: Global) -> Result<Items, Fail> {
-    let items = Items::from_vec(vec![in alloc; Value::Null, Value::Int(1)]?);
-    Ok(Items::from_vec(items.into_vec()))
-}
-
-fn props_again(alloc: Global) -> Result<Props, Fail> {
-    let mut props = Props::new(alloc);
-    props.set(text(alloc, "b")?, Value::Int(2))?;
-    Ok(Props::from_vec(props.into_vec()))
-}
-
-fn pairs_again(alloc: Global) -> Result<Pairs, Fail> {
-    let pairs = Pairs::from_vec(vec![in alloc;
-        Pair {
-            key: Value::Null,
-            value: Value::Int(3)
-        },
-    ]?);
-    Ok(Pairs::from_vec(pairs.into_vec()))
-}
-
-fn keys_again(alloc: Global) -> Result<Keys, Fail> {
-    let keys = Keys::from_vec(vec![in alloc; Key::Number(4)]?);
-    Ok(Keys::from_vec(keys.into_vec()))
-}
-
-fn texts_again(alloc: Global) -> Result<Texts, Fail> {
-    let texts = Texts::from_vec(vec![in alloc; text(alloc, "grün")?]?);
-    Ok(Texts::from_vec(texts.into_vec()))
-}
-
-fn bytes_again(alloc: Global) -> Result<Bytes, Fail> {
-    let bytes = Bytes::from_vec(vec![in alloc; 7, 8]?);
-    Ok(Bytes::from_vec(bytes.into_vec()))
-}
-
-fn numbers_again(alloc: Global) -> Result<Numbers, Fail> {
-    let numbers = Numbers::from_vec(vec![in alloc; 9]?);
-    Ok(Numbers::from_vec(numbers.into_vec()))
-}
-
-fn string_of(alloc: Global, s: &str) -> Result<String, Fail> {
-    Ok(text(alloc, s)?.into_string())
-}
-
-/// Each list is made of a vector, and gives it back.
-#[test]
-fn lists_come_from_vectors_and_go_back(rt: HostRuntime) -> Result<(), Fail> {
-    assert!(rt; matches!(items_again(rt.alloc())?.at(1), Some(Value::Int(1))));
-    assert!(rt; matches!(props_again(rt.alloc())?.find("b"), Some(Value::Int(2))));
-    assert!(rt;
-        matches!(
-            pairs_again(rt.alloc())?.at(0),
-            Some(Pair {
-                key: Value::Null,
-                value: Value::Int(3)
-            })
-        )
-    );
-    assert!(rt; matches!(keys_again(rt.alloc())?.at(0), Some(Key::Number(4))));
-    assert_eq!(rt;
-        texts_again(rt.alloc())?.at(0).map(|t| t.as_str().len()),
-        Some(5)
-    );
-    assert_eq!(rt; bytes_again(rt.alloc())?.as_slice(), [7, 8].as_slice());
-    assert_eq!(rt; numbers_again(rt.alloc())?.at(0).copied(), Some(9));
-    assert_eq!(rt; string_of(rt.alloc(), "grün")?.as_str(), "grün");
-    Ok(())
-}
-
-/// A repeated primitive keeps its first place, and a Map takes the last value; other members are distinct.
-#[test]
-fn primitives_stand_once(rt: HostRuntime) -> Result<(), Fail> {
-    let mut members = Items::new(rt.alloc());
-    let mut entries = Pairs::new(rt.alloc());
-    for (turn, (number, again)) in [(1, false), (2, false), (1, true), (3, false)]
-        .into_iter()
-        .enumerate()
-    {
-        assert!(rt; members.len() <= turn && entries.len() <= turn);
-        members.put_once(Value::Int(number))?;
-        entries.put(Value::Int(number), Value::Bool(again))?;
-    }
-    assert_eq!(rt; (members.len(), entries.len()), (3, 3));
-    for (place, (number, again)) in [(1, true), (2, false), (3, false)].into_iter().enumerate() {
-        assert!(rt; matches!(members.at(place), Some(Value::Int(n)) if *n == number));
-        let entry = entries.at(place);
-        assert!(rt;
-            matches!(entry, Some(Pair { key: Value::Int(n), value: Value::Bool(b) }) if *n == number && *b == again)
-        );
-    }
-    members.put_once(nested(rt.alloc(), 1)?)?;
-    assert_eq!(rt; members.len(), 4);
-    members.put_once(nested(rt.alloc(), 1)?)?;
-    assert_eq!(rt; members.len(), 5);
-    assert!(rt; well_formed(&Value::Set(members)) && well_formed(&Value::Map(entries)));
-    Ok(())
-}
-
-/// The ends of the ranges of numbers and of dates, and a repeated member of a Set that was pushed.
-#[test]
-fn ranges_end_where_stated(rt: HostRuntime) -> Result<(), Fail> {
-    for (n, is_int, is_date) in [
-        (9_007_199_254_740_992, true, false),
-        (9_007_199_254_740_993, false, false),
-        (-9_007_199_254_740_992, true, false),
-        (-9_007_199_254_740_993, false, false),
-        (8_640_000_000_000_000, true, true),
-        (8_640_000_000_000_001, true, false),
-        (-8_640_000_000_000_000, true, true),
-        (-8_640_000_000_000_001, true, false),
-    ] {
-        assert_eq!(rt;
-            (well_formed(&Value::Int(n)), well_formed(&Value::Date(n))),
-            (is_int, is_date),
-            "{n}"
-        );
-    }
-    let mut twice = Items::new(rt.alloc());
-    twice.push(Value::Null)?;
-    twice.push(Value::Null)?;
-    assert!(rt; !well_formed(&Value::Set(twice)));
-    Ok(())
+fn values_may_be_shared(rt: HostRuntime) {
+    let seat = Seat {
+        value: Value::Object(Props::new(rt.alloc())),
+        key: Key::Array(Keys::new(rt.alloc())),
+    };
+    assert!(rt; is_shared(&seat) && depth(&seat.value) == 1 && matches!(seat.key, Key::Array(_)));
 }

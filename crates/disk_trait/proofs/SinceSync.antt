@@ -5,12 +5,12 @@ use Rattle.disk_trait.specs.declared.area.Area.{Area}
 use Rattle.disk_trait.specs.declared.area.Area.TheVariants.{Zero, One}
 use Rattle.disk_trait.specs.declared.plan.Image.{Image}
 use Rattle.disk_trait.specs.declared.plan.Image.TheVariants.{Kept, Dropped}
-use Rattle.disk_trait.specs.Areas.{Areas, area_of, other_area, with_area, same_areas}
+use Rattle.disk_trait.specs.Areas.{Areas, area_of, other_area, with_area}
 use Rattle.disk_trait.specs.Disk.{SameImages, OnArea, Torn}
 use Rattle.disk_trait.specs.Memory.{Change, Standing, standing, after_change, MayLeave}
 use Rattle.disk_trait.specs.Memory.Change.{Wrote, Missed, WasCut, Synced, Restarted}
 use Rattle.disk_trait.specs.MemoryLaws.{standing_may_be_left}
-use Rattle.disk_trait.specs.Moments.{torn_front}
+use Rattle.disk_trait.proofs.Laws.{torn_front, same_areas}
 use Rattle.disk_trait.specs.Laws.{SameOutside, PinnedBySync, SameSinceSync, KeptIsRead, DroppedIsSynced}
 
 -- two histories that stand the same and have the same images

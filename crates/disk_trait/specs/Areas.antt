@@ -1,5 +1,5 @@
 -- The bytes of the two areas of a disk.
-use Rattle.std.specs.Prelude.{◌≡◌, ℕ, List}
+use Rattle.std.specs.Prelude.{ℕ, List}
 use Rattle.disk_trait.specs.declared.area.Area.{Area}
 use Rattle.disk_trait.specs.declared.area.Area.TheVariants.{Zero, One}
 
@@ -22,8 +22,3 @@ other_area One = Zero
 abbrev pub with_area : Area → List ℕ → Areas → Areas
 with_area Zero bytes areas = record { zero = bytes; one = areas.one }
 with_area One bytes areas = record { zero = areas.zero; one = bytes }
-
--- areas are the same where each of them is; a user of the trait cites this lemma
-pub same_areas : (area : Area) (a b : Areas) → area_of area a ≡ area_of area b → area_of (other_area area) a ≡ area_of (other_area area) b → a ≡ b
-same_areas Zero a b here elsewhere = λ i. record { zero = here i; one = elsewhere i }
-same_areas One a b here elsewhere = λ i. record { zero = elsewhere i; one = here i }

@@ -4,8 +4,8 @@ use Rattle.disk_trait.specs.Memory.{standing, bytes_of}
 use Rattle.disk_trait.specs.Parts.{ContentState}
 use Rattle.disk_trait.specs.declared.content.Content.TheInside.{Inside}
 
-abbrev pub content_of : Inside → ContentState
-content_of c = record { history = c.log.history; image = c.image; spare = c.log.spare; room = c.log.room }
+abbrev pub content_seen : Inside → ContentState
+content_seen c = record { history = c.log.history; image = c.image; spare = c.log.spare; room = c.log.room }
 
 -- In the areas stands what follows from the log. They have room for all bytes that can come.
 pub record IsContent (c : Inside) : Type 0 where

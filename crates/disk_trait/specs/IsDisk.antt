@@ -3,8 +3,9 @@ use Rattle.std.specs.Prelude.{◌+◌, ◌≤◌}
 use Rattle.disk_trait.specs.Memory.{MemoryState}
 use Rattle.disk_trait.specs.declared.memory.MemoryDisk.TheInside.{Inside}
 
-abbrev pub disk_of : Inside → MemoryState
-disk_of d = record {
+-- the disk as callers see it
+abbrev pub memory_of : Inside → MemoryState
+memory_of d = record {
   history = d.content.history;
   image = d.content.image;
   room = d.content.room;

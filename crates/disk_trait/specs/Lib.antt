@@ -10,6 +10,5 @@ pub mod IsLog
 pub mod Laws
 pub mod Memory
 pub mod MemoryLaws
-pub mod Moments
 pub mod Note
 pub mod Parts

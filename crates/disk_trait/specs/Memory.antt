@@ -5,7 +5,7 @@ use Rattle.disk_trait.specs.declared.area.Area.{Area}
 use Rattle.disk_trait.specs.declared.plan.Image.{Image}
 use Rattle.disk_trait.specs.declared.plan.Image.TheVariants.{Kept, Dropped, Byte}
 use Rattle.disk_trait.specs.Areas.{Areas, area_of, with_area}
-use Rattle.disk_trait.specs.Disk.{overwritten, Torn, Cut, OnArea}
+use Rattle.disk_trait.specs.Disk.{DiskView, overwritten, Torn, Cut, OnArea}
 
 -- What reached the disk. A write or a cut did so whether it answered Ok or not, a sync or a restart where it answered Ok.
 pub data Change : Type 0 where
@@ -101,6 +101,17 @@ new_disk room limit fail_at stop_after image = record { history = []; image = im
 abbrev pub reads_of : MemoryState → Areas
 reads_of disk = (standing disk.image disk.history).reads
 
+-- the disk as the trait sees it
+abbrev pub disk_view : MemoryState → DiskView
+disk_view disk = record {
+  reads = Some (reads_of disk);
+  lengths = λ area. length (area_of area (reads_of disk));
+  may_leave = λ image. MayLeave disk.image disk.history image;
+  moment = length disk.history;
+  left_since = λ t image. LeftSince disk.image disk.history t image;
+  faults = disk.calls.faults;
+}
+
 -- the stop has come, and no restart since
 abbrev pub IsStopped : MemoryState → Type 0
 IsStopped disk = IsSomeAnd disk.stop_after (λ k. k ≤ disk.calls.made)
@@ -138,5 +149,5 @@ abbrev pub restarted : MemoryState → MemoryState
 restarted disk = record disk { history = Restarted ∷ disk.history; stop_after = still_to_come disk.calls.made disk.stop_after }
 
 -- a call was counted, and counted as a fault where it failed
-abbrev pub counted : {T E : Type 0} → Result T E → MemoryState → MemoryState
-counted result disk = record disk { calls = record disk.calls { made = one_more disk.calls.made; faults = if is_ok result then disk.calls.faults else one_more disk.calls.faults } }
+abbrev pub with_call : {T E : Type 0} → Result T E → MemoryState → MemoryState
+with_call result disk = record disk { calls = record disk.calls { made = one_more disk.calls.made; faults = if is_ok result then disk.calls.faults else one_more disk.calls.faults } }

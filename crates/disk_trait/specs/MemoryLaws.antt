@@ -11,7 +11,17 @@ use Rattle.disk_trait.specs.Areas.{Areas, area_of, with_area}
 use Rattle.disk_trait.specs.Disk.{overwritten, Torn, Cut, OnArea}
 use Rattle.disk_trait.specs.Memory.{Change, standing, no_bytes, MayLeave, LeftSince, picked_write, picked_cut}
 use Rattle.disk_trait.specs.Memory.Change.{Wrote, Missed, WasCut, Synced, Restarted}
-use Rattle.disk_trait.specs.Moments.{torn_nothing}
+
+-- a write that did nothing is torn, too
+pub torn_nothing : (area : Area) (from n : ℕ) (areas : Areas) → OnArea area (Torn from n) areas areas
+torn_nothing area from n areas = record {
+  here = record { before = take_min from (area_of area areas); after = refl; no_shorter = omega arith; no_longer = omega arith };
+  elsewhere = refl;
+}
+
+-- and a cut that did nothing may have been one
+pub cut_nothing : (area : Area) (len : ℕ) (areas : Areas) → OnArea area (Cut len) areas areas
+cut_nothing area len areas = record { here = inl refl; elsewhere = refl }
 
 -- a step on one area leads to these areas with the new bytes in it
 pub on_area : (area : Area) (step : List ℕ → List ℕ → Type 0) (areas : Areas) (bytes : List ℕ) → step (area_of area areas) bytes → OnArea area step areas (with_area area bytes areas)

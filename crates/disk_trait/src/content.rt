@@ -22,9 +22,9 @@ impl Model for Content {
 
     ghost Value = { ContentState };
 
-    ghost use Rattle.disk_trait.specs.IsContent.{content_of, IsContent};
+    ghost use Rattle.disk_trait.specs.IsContent.{content_seen, IsContent};
 
-    ghost view = { content_of };
+    ghost view = { content_seen };
 
     ghost invariant = { IsContent };
 }

@@ -10,9 +10,9 @@ mod both_areas;
 mod change_log;
 mod content;
 mod disk;
-mod laws;
 mod memory;
 mod note;
+mod over_calls;
 mod plan;
 mod synced;
 #[cfg(test)]
@@ -20,9 +20,9 @@ mod tests;
 
 pub use area::Area;
 pub use disk::Disk;
-pub use edge_traits::{Failed, NoMemory};
-pub use laws::{planned_images, rewrite_synced, same_calls_leave_the_same, sync_pins};
+pub use edge_traits::Failed;
 pub use memory::MemoryDisk;
 pub use note::leave_note;
+pub use over_calls::{planned_images, same_calls_leave_the_same, sync_pins};
 pub use plan::{DiskPlan, Image};
-pub use synced::{cut_synced, write_synced};
+pub use synced::{cut_synced, rewrite_synced, write_synced};

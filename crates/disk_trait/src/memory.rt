@@ -4,12 +4,13 @@ ghost use Rattle.std.specs.Prelude.{◌≡◌, ◌⊎◌, ◌↔◌, ◌+◌, �
 ghost use Rattle.edge_traits.specs.Fakes.{IsListed};
 ghost use Rattle.edge_traits.specs.Faults.{HasFaultCause};
 ghost use Rattle.disk_trait.specs.Areas.{area_of};
-ghost use Rattle.disk_trait.specs.Memory.{reads_of, bytes_of, new_disk, IsStopped, IsSpent, MustFail, with_change, with_write, with_cut, restarted, counted};
+ghost use Rattle.disk_trait.specs.Memory.{reads_of, bytes_of, new_disk, IsStopped, IsSpent, MustFail, with_change, with_write, with_cut, restarted, with_call};
 ghost use Rattle.disk_trait.specs.Memory.Change.{Synced};
 
 use crate::content::Content;
 use crate::{Area, Disk, DiskPlan};
-use edge_traits::{CallPlan, Failed, NoMemory};
+use edge_traits::{CallPlan, Failed};
+use idb_base::NoMemory;
 use std::alloc::Global;
 use std::marker::Model;
 
@@ -33,9 +34,9 @@ impl Model for MemoryDisk {
 
     ghost Value = { MemoryState };
 
-    ghost use Rattle.disk_trait.specs.IsDisk.{disk_of, HasEntries};
+    ghost use Rattle.disk_trait.specs.IsDisk.{memory_of, HasEntries};
 
-    ghost view = { disk_of };
+    ghost view = { memory_of };
 
     ghost invariant = { HasEntries };
 }
@@ -59,15 +60,12 @@ impl MemoryDisk {
             stop_after,
             image,
         } = plan;
-        match Content::with_room(alloc, calls as usize, room as usize, image) {
-            Ok(content) => Ok(MemoryDisk {
-                content,
-                calls: CallPlan::new(fail_at),
-                limit: calls,
-                stop_after,
-            }),
-            Err(_) => Err(NoMemory),
-        }
+        Ok(MemoryDisk {
+            content: Content::with_room(alloc, calls as usize, room as usize, image)?,
+            calls: CallPlan::new(fail_at),
+            limit: calls,
+            stop_after,
+        })
     }
 
     /// What reads of an area give now.
@@ -103,7 +101,7 @@ impl MemoryDisk {
         ensures failed { IsErr result ↔ MustFail self.old }
         ensures length { IfOk result (λ n. n ≡ length (area_of area (reads_of self.old))) }
         ensures limit { IfOk result (λ n. n ≤ 2 ^ 63 - 1) }
-        ensures after { self.new ≡ counted result self.old }
+        ensures after { self.new ≡ with_call result self.old }
         ensures cause { HasFaultCause self.old.calls.faults self.new.calls.faults result }
     {
         let blocked = self.is_blocked();
@@ -117,7 +115,7 @@ impl MemoryDisk {
         ensures failed { IsErr result ↔ MustFail self.old }
         ensures bytes { OnOk result
             (buf.new ≡ take (length buf.old) (drop from (area_of area (reads_of self.old)))) }
-        ensures after { self.new ≡ counted result self.old }
+        ensures after { self.new ≡ with_call result self.old }
         ensures cause { HasFaultCause self.old.calls.faults self.new.calls.faults result }
     {
         let blocked = self.is_blocked();
@@ -132,7 +130,7 @@ impl MemoryDisk {
         requires { from ≤ length (area_of area (reads_of self.old)) }
         ensures failed { IsErr result ↔ (MustFail self.old ⊎ (self.old.room < length bytes.now)) }
         ensures limit { OnOk result (from + length bytes.now ≤ 2 ^ 63 - 1) }
-        ensures after { self.new ≡ counted result (with_write area from bytes.now self.old) }
+        ensures after { self.new ≡ with_call result (with_write area from bytes.now self.old) }
         ensures cause { HasFaultCause self.old.calls.faults self.new.calls.faults result }
     {
         let is_full = bytes.len() > self.content.room();
@@ -147,7 +145,7 @@ impl MemoryDisk {
     pub fn cut(&mut self, area: Area, len: u64) -> Result<(), Failed>
         requires { len ≤ length (area_of area (reads_of self.old)) }
         ensures failed { IsErr result ↔ MustFail self.old }
-        ensures after { self.new ≡ counted result (with_cut area len self.old) }
+        ensures after { self.new ≡ with_call result (with_cut area len self.old) }
         ensures cause { HasFaultCause self.old.calls.faults self.new.calls.faults result }
     {
         let blocked = self.is_blocked();
@@ -160,7 +158,7 @@ impl MemoryDisk {
     /// Pins an area: a stop then leaves what reads give in it.
     pub fn sync(&mut self, area: Area) -> Result<(), Failed>
         ensures failed { IsErr result ↔ MustFail self.old }
-        ensures after { self.new ≡ counted result
+        ensures after { self.new ≡ with_call result
             (if is_ok result then with_change (Synced area) self.old else self.old) }
         ensures cause { HasFaultCause self.old.calls.faults self.new.calls.faults result }
     {
@@ -173,7 +171,7 @@ impl MemoryDisk {
     /// Takes up the image that the plan picks, and ends a stop that holds.
     pub fn restart(&mut self) -> Result<(), Failed>
         ensures failed { IsErr result ↔ (IsListed self.old.calls ⊎ IsSpent self.old) }
-        ensures after { self.new ≡ counted result
+        ensures after { self.new ≡ with_call result
             (if is_ok result then restarted self.old else self.old) }
         ensures cause { HasFaultCause self.old.calls.faults self.new.calls.faults result }
     {
@@ -198,22 +196,11 @@ impl MemoryDisk {
 }
 
 impl Disk for MemoryDisk {
-    ghost use Rattle.std.specs.Prelude.{ℕ, Some, refl, length};
-    ghost use Rattle.disk_trait.specs.Areas.{area_of};
-    ghost use Rattle.disk_trait.specs.Memory.{reads_of, MayLeave, LeftSince, standing};
+    ghost use Rattle.std.specs.Prelude.{refl};
+    ghost use Rattle.disk_trait.specs.Memory.{disk_view, reads_of};
     ghost use Rattle.disk_trait.specs.MemoryLaws.{reads_are_left, told_length, memory_counts_now, memory_only_now, memory_since_earlier};
 
-    ghost reads = { λ d. Some (reads_of d) };
-
-    ghost length_of = { λ d area. length (area_of area (reads_of d)) };
-
-    ghost may_leave = { λ d image. MayLeave d.image d.history image };
-
-    ghost moment = { λ d. length d.history };
-
-    ghost left_since = { λ d t image. LeftSince d.image d.history t image };
-
-    ghost faults = { λ d. d.calls.faults };
+    ghost shows = { disk_view };
 
     ghost reads_are_an_image = { λ d areas told. reads_are_left d.image d.history areas told };
 

@@ -1,4 +1,7 @@
 -- The fakes over memory: what callers see of them, and when a call of one fails.
+--
+-- one_more: a count of 64 bits, one later. Calls, no_calls: the calls of a fake. IsListed: the next one is to fail.
+-- CountsCall: a call was counted. SourceState, SinkState: a source and a sink over memory.
 use Rattle.std.specs.Prelude.{◌≡◌, ℕ, ◌+◌, ◌-◌, ◌^◌, min, List, Contains, Result, is_ok, if◌then◌else◌}
 
 -- One more, for a count of 64 bits, which stands still at its end.

@@ -1,4 +1,6 @@
 -- Counts of faults: how often the outside has failed, and what an answer `Failed` says of that.
+--
+-- Rose: a count that rose. HasFaultCause: an error is answered only where it did.
 use Rattle.std.specs.Prelude.{◌⊎◌, ℕ, ◌-◌, ◌^◌, ◌<◌, ◌≤◌, Result, OnErr}
 
 -- The count rose. A count of 64 bits that has come to its end stands still, and counts as risen.

@@ -1,4 +1,6 @@
 -- What a whole reading takes of a source, and what a writing that may stop leaves in a sink, where bytes are told.
+--
+-- ConsumesAtMost: a reading up to a limit. AppendsFront: a writing that may have stopped.
 use Rattle.std.specs.Prelude.{ℕ, ◌≤◌, List, Option, length, take}
 use Rattle.std.specs.Io.KnownBytes.{Appends, Consumes}
 

@@ -19,13 +19,9 @@ pub use gates::{Gate, OpenGate};
 pub use memory_sinks::MemorySink;
 pub use memory_sources::{MemorySource, SteadySource};
 pub use sinks::{Sink, write_all};
-pub use sources::{ReadError, Source, read_all};
+pub use sources::{Source, SourceError, read_all};
 
 /// What a source, a sink or a disk answers where it failed. The cause is counted: the fault count of
 /// the object rose.
 #[derive(Clone, Copy, Debug, PartialEq, Eq)]
 pub struct Failed;
-
-/// Memory ran out.
-#[derive(Clone, Copy, Debug, PartialEq, Eq)]
-pub struct NoMemory;

@@ -4,9 +4,10 @@ ghost use Rattle.std.specs.Io.KnownBytes.{WriteAppends};
 ghost use Rattle.edge_traits.specs.Faults.{HasFaultCause};
 ghost use Rattle.edge_traits.specs.Fakes.{CountsCall, IsListed, no_calls};
 
+use crate::Failed;
 use crate::call_plans::CallPlan;
 use crate::sinks::Sink;
-use crate::{Failed, NoMemory};
+use idb_base::NoMemory;
 use std::alloc::Global;
 use std::marker::Model;
 
@@ -35,14 +36,11 @@ impl MemorySink {
     pub fn with_room(alloc: Global, room: usize, fail_at: Vec<u64>) -> Result<Self, NoMemory>
         ensures { IfOk result (λ s. s ≡ record { held = []; room = room; calls = no_calls fail_at.items }) }
     {
-        match Vec::with_capacity(alloc, room) {
-            Ok(bytes) => Ok(MemorySink {
-                bytes,
-                room,
-                calls: CallPlan::new(fail_at),
-            }),
-            Err(_) => Err(NoMemory),
-        }
+        Ok(MemorySink {
+            bytes: Vec::with_capacity(alloc, room)?,
+            room,
+            calls: CallPlan::new(fail_at),
+        })
     }
 
     /// The bytes that were written.

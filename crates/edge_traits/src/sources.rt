@@ -3,9 +3,11 @@ ghost use Rattle.std.specs.Prelude.{◌≡◌, ℕ, ◌<◌, ◌≤◌, List, Op
 ghost use Rattle.std.specs.Io.KnownBytes.{Consumes, IsAtEnd, Keeps, ReadConsumes};
 ghost use Rattle.edge_traits.specs.Faults.{HasFaultCause, Rose};
 ghost use Rattle.edge_traits.specs.Streams.{ConsumesAtMost};
+ghost use Rattle.edge_traits.specs.declared.sources.SourceError.TheVariants.{Failed as SourceFailed, NoMemory as WantOfMemory};
 
 use crate::Failed;
-use std::alloc::Global;
+use idb_base::NoMemory;
+use std::alloc::{AllocError, Global};
 
 /// Where bytes come from. A source over memory tells what is left; one over a real stream tells
 /// nothing, and then the clause on content falls away, and those on the length and on faults stay.
@@ -24,11 +26,35 @@ pub trait Source {
 
 /// Why a source was not read to its end.
 #[derive(Clone, Copy, Debug, PartialEq, Eq)]
-pub enum ReadError {
+pub enum SourceError {
     /// The source failed, and counted it.
     Failed,
     /// Memory ran out.
     NoMemory,
+}
+
+impl From<Failed> for SourceError {
+    ghost from_gives = { λ _ error. error ≡ SourceFailed };
+
+    fn from(_failed: Failed) -> SourceError {
+        SourceError::Failed
+    }
+}
+
+impl From<NoMemory> for SourceError {
+    ghost from_gives = { λ _ error. error ≡ WantOfMemory };
+
+    fn from(_none: NoMemory) -> SourceError {
+        SourceError::NoMemory
+    }
+}
+
+impl From<AllocError> for SourceError {
+    ghost from_gives = { λ _ error. error ≡ WantOfMemory };
+
+    fn from(_none: AllocError) -> SourceError {
+        SourceError::NoMemory
+    }
 }
 
 // How many bytes one call of a source is asked for at most.
@@ -40,12 +66,12 @@ pub fn read_all<S: Source>(
     alloc: Global,
     source: &mut S,
     limit: usize,
-) -> Result<Vec<u8>, ReadError>
+) -> Result<Vec<u8>, SourceError>
     ensures whole { IfOk result (λ v. Consumes (S.left source.old) (S.left source.new) v.items) }
     ensures within { IfOk result (λ v. vec_len v ≤ limit) }
     ensures to_end { IfOk result (λ v. vec_len v < limit → IsAtEnd (S.left source.new)) }
     ensures taken { ConsumesAtMost (S.left source.old) (S.left source.new) limit }
-    ensures failed { IsErrOf result ReadError.Failed
+    ensures failed { IsErrOf result SourceError.Failed
         → Rose (S.faults source.old) (S.faults source.new) }
     ensures count { S.faults source.old ≤ S.faults source.new }
 {
@@ -65,7 +91,7 @@ fn read_piece<S: Source>(
     source: &mut S,
     bytes: &mut Vec<u8>,
     most: usize,
-) -> Result<usize, ReadError>
+) -> Result<usize, SourceError>
     requires { 0 < most }
     ensures grown { IfOk result (λ n. (piece : List ℕ) × (length piece ≡ n) × (n ≤ most)
         × (bytes.new.items ≡ bytes.old.items ++ piece)
@@ -73,21 +99,15 @@ fn read_piece<S: Source>(
     ensures at_end { IfOk result (λ n. n ≡ 0 → IsAtEnd (S.left source.new)) }
     ensures unchanged { OnErr result (bytes.new.items ≡ bytes.old.items) }
     ensures kept { OnErr result (Keeps (S.left source.old) (S.left source.new)) }
-    ensures failed { IsErrOf result ReadError.Failed
+    ensures failed { IsErrOf result SourceError.Failed
         → Rose (S.faults source.old) (S.faults source.new) }
     ensures count { S.faults source.old ≤ S.faults source.new }
 {
     let room = most.min(PIECE);
-    if bytes.reserve(room).is_err() {
-        return Err(ReadError::NoMemory);
-    }
+    bytes.reserve(room)?;
     let mut buf = [0; PIECE];
     let piece = &mut buf[..room];
-    match source.read(piece) {
-        Ok(n) => {
-            bytes.extend_from_slice(&piece[..n]).unwrap();
-            Ok(n)
-        }
-        Err(_) => Err(ReadError::Failed),
-    }
+    let n = source.read(piece)?;
+    bytes.extend_from_slice(&piece[..n]).unwrap();
+    Ok(n)
 }

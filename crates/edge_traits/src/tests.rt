@@ -1,6 +1,6 @@
 // What no clause says: that calls succeed with ample memory, and how the fakes behave in mid-stream.
 use crate::{
-    Failed, Gate, MemorySink, MemorySource, OpenGate, ReadError, Sink, Source, SteadySource,
+    Failed, Gate, MemorySink, MemorySource, OpenGate, Sink, Source, SourceError, SteadySource,
     read_all, write_all,
 };
 
@@ -30,7 +30,7 @@ fn a_failing_second_read_is_told(rt: HostRuntime) {
     let fail_at = [2].to_vec(rt.alloc()).expect(&rt, "memory");
     let mut source = MemorySource::new(have, fail_at);
     let first = read_all(rt.alloc(), &mut source, 65_537).expect_err(&rt, "the second read fails");
-    assert_eq!(rt; first, ReadError::Failed);
+    assert_eq!(rt; first, SourceError::Failed);
     let rest = read_all(rt.alloc(), &mut source, 65_537).expect(&rt, "the rest");
     assert!(rt; !rest.is_empty() && rest.ends_with(b"0123456789"));
 }

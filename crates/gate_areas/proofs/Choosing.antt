@@ -4,10 +4,11 @@ use Rattle.std.proofs.lemmas.Bool.{cond-true, cases_order, eq-eqb, lt-ltb}
 use Rattle.std.proofs.lemmas.List.{drop_more, length-take-le}
 use Rattle.disk_trait.specs.declared.area.Area.{Area}
 use Rattle.disk_trait.specs.declared.area.Area.TheVariants.{Zero, One}
-use Rattle.disk_trait.specs.Areas.{Areas, area_of, other_area, same_areas}
+use Rattle.disk_trait.specs.Areas.{Areas, area_of, other_area}
+use Rattle.disk_trait.proofs.Laws.{same_areas}
 use Rattle.disk_trait.specs.Disk.{OnArea}
 use Rattle.gate_areas.specs.Sealed.{BatchList, Open, Fault, is_open, sealed_of}
-use Rattle.gate_areas.specs.Found.{Damaged, found_in, found_of, meaning_of, batches_in, counts_for_nothing, SameBatches}
+use Rattle.gate_areas.specs.Found.{Damaged, found_in, found_of, counts_for_nothing, KeepsFound}
 use Rattle.gate_areas.specs.Scan.{EndsAt}
 use Rattle.gate_areas.specs.Choice.{ChoiceIs, ChoiceEnds}
 use Rattle.gate_areas.specs.Fronts.{IsFront, batches_before}
@@ -17,7 +18,7 @@ use Rattle.gate_areas.specs.declared.choose.Choice.{Choice}
 use Rattle.gate_areas.specs.declared.choose.Choice.TheVariants as choice
 use Rattle.gate_areas.proofs.Found.{lives}
 use Rattle.gate_areas.proofs.Fronts.{shut_front}
-use Rattle.gate_areas.proofs.Rest.{before_is, at_rest, before, stands}
+use Rattle.gate_areas.proofs.Rest.{before_is, at_rest, before}
 
 -- what an area stands for that ends at a gate
 pub sealed_ends : (generation gate : ℕ) (bytes : List ℕ) (ends : EndsAt generation gate bytes) → sealed_of bytes ≡ Open generation ends.batches
@@ -68,13 +69,16 @@ module _ (area : Area) (generation gate : ℕ) (given : Areas) (live : IsLive ar
   alone_still : (image : Areas) → area_of (other_area area) image ≡ area_of (other_area area) given → counts_for_nothing generation (sealed_of (area_of (other_area area) image)) ≡ true
   alone_still image elsewhere = ap (λ (l : List ℕ). counts_for_nothing generation (sealed_of l)) elsewhere ∙ live.alone
 
-  pub repairing : (image : Areas) → OnArea area (Repairing gate) given image → SameBatches given image
-  repairing image step = ⊎_elim
-      (λ same. ap batches_in (same_areas area image given same step.elsewhere))
-      (λ gated. stands area generation _ image
-      (ap sealed_of gated.1 ∙ shut_front generation gate gated.0 (take gate (area_of area given)) [] _ live.front refl) (alone_still image step.elsewhere)
-      ∙ sym (ap meaning_of live.found))
-      step.here
+  pub repairing : (image : Areas) → OnArea area (Repairing gate) given image → KeepsFound area given image
+  repairing image step = record {
+    found = ⊎_elim
+        (λ same. ap found_of (same_areas area image given same step.elsewhere))
+        (λ gated. lives generation _ area image
+        (ap sealed_of gated.1 ∙ shut_front generation gate gated.0 (take gate (area_of area given)) [] _ live.front refl) (alone_still image step.elsewhere)
+        ∙ sym live.found)
+        step.here;
+    elsewhere = step.elsewhere;
+  }
 
   pub repaired : (after : Areas) → OnArea area (Repairs gate) given after → AtRest area generation gate after × (batches_before gate (area_of area after) ≡ batches_before gate (area_of area given))
   repaired after step =

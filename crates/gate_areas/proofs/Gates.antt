@@ -2,7 +2,7 @@
 use Rattle.std.proofs.Common.{◌≡◌, ℕ, ◌+◌, List, [], ◌∷◌, ◌++◌, length, take, drop, get_or, sym, ◌∙◌, ap, arith, append_assoc, length-append, take-append-drop}
 use Rattle.std.proofs.lemmas.List.{append-nil, take_all, take_at, drop_at, drop_all, drop_more, drop-drop}
 use Rattle.disk_trait.specs.Disk.{Torn, Written}
-use Rattle.disk_trait.specs.Moments.{torn_front}
+use Rattle.disk_trait.proofs.Laws.{torn_front}
 
 module _ (front : List ℕ) (gate place : ℕ) (places : length front ≡ place) where
   ended : length (front ++ gate ∷ []) ≡ place + 1

@@ -6,7 +6,7 @@ use Rattle.std.specs.Str.{bytes_eq}
 use Rattle.std.proofs.lemmas.Bool.{cond-true, cond-false, lt-ltb, le-ltb, eq-eqb, ne_eqb, or_from, or_left, or_right, false_from_ne_true}
 use Rattle.std.proofs.lemmas.Slice.Eq.{bytes_eq-Decides}
 use Rattle.std.proofs.lemmas.List.{drop_all, drop-take, take-take, drop-drop, length-take, length-take-le, length-drop}
-use Rattle.gate_areas.specs.Sealed.{Fault, is_open, number_at, batches_at, opened, sealed_of, MAGIC, OPEN}
+use Rattle.gate_areas.specs.Sealed.{Fault, is_open, spelled_number, batches_at, opened, sealed_of, MAGIC, OPEN}
 use Rattle.gate_areas.specs.Fronts.{IsFront}
 use Rattle.gate_areas.proofs.Making.{head_front}
 use Rattle.gate_areas.proofs.Scanning.{open_by, number_is}
@@ -32,26 +32,26 @@ module _ (bytes : List ℕ) (long : 2 ≤ length bytes) (buf : List ℕ) (read :
     pub short_number : length bytes < 17 → sealed_of bytes ≡ Fault 9
     short_number short =
         cond-true (is_open bytes) _ _ opens ∙ cond-true (bytes_eq (take 8 (drop 1 bytes)) MAGIC) _ _ magic_is
-        ∙ cond-true (ltb (length (drop 8 (drop 1 bytes))) 8 || eqb (number_at (drop 8 (drop 1 bytes))) 0) _ _
+        ∙ cond-true (ltb (length (drop 8 (drop 1 bytes))) 8 || eqb (spelled_number (drop 8 (drop 1 bytes))) 0) _ _
         (or_left (ltb (length (drop 8 (drop 1 bytes))) 8) _ (lt-ltb (length (drop 8 (drop 1 bytes))) 8 (omega (arith, ap length nine, length-drop 9 bytes))))
 
     module _ (enough : 17 ≤ length bytes) (number : List ℕ) (read_number : number ≡ take 8 (drop 9 bytes)) where
-      number_here : number_at (drop 8 (drop 1 bytes)) ≡ from_be_bytes w64 number
+      number_here : spelled_number (drop 8 (drop 1 bytes)) ≡ from_be_bytes w64 number
       number_here = number_is (drop 8 (drop 1 bytes)) number (read_number ∙ ap (λ (l : List ℕ). take 8 l) (sym nine))
 
       pub no_number : from_be_bytes w64 number ≡ 0 → sealed_of bytes ≡ Fault 9
       no_number zero =
           cond-true (is_open bytes) _ _ opens ∙ cond-true (bytes_eq (take 8 (drop 1 bytes)) MAGIC) _ _ magic_is
-          ∙ cond-true (ltb (length (drop 8 (drop 1 bytes))) 8 || eqb (number_at (drop 8 (drop 1 bytes))) 0) _ _
-          (or_right (ltb (length (drop 8 (drop 1 bytes))) 8) _ (eq-eqb (number_at (drop 8 (drop 1 bytes))) 0 (number_here ∙ zero)))
+          ∙ cond-true (ltb (length (drop 8 (drop 1 bytes))) 8 || eqb (spelled_number (drop 8 (drop 1 bytes))) 0) _ _
+          (or_right (ltb (length (drop 8 (drop 1 bytes))) 8) _ (eq-eqb (spelled_number (drop 8 (drop 1 bytes))) 0 (number_here ∙ zero)))
 
       pub no_gate : (from_be_bytes w64 number ≡ 0 → ⊥) → length bytes ≡ 17 → sealed_of bytes ≡ Fault 17
       no_gate some ends =
           cond-true (is_open bytes) _ _ opens ∙ cond-true (bytes_eq (take 8 (drop 1 bytes)) MAGIC) _ _ magic_is
-          ∙ cond-false (ltb (length (drop 8 (drop 1 bytes))) 8 || eqb (number_at (drop 8 (drop 1 bytes))) 0) _ _
+          ∙ cond-false (ltb (length (drop 8 (drop 1 bytes))) 8 || eqb (spelled_number (drop 8 (drop 1 bytes))) 0) _ _
           (or_from _ _ (le-ltb (length (drop 8 (drop 1 bytes))) 8 (omega (arith, ap length nine, length-drop 9 bytes)))
-          (ne_eqb (number_at (drop 8 (drop 1 bytes))) 0 (λ zero. some (sym number_here ∙ zero))))
-          ∙ ap (λ (l : List ℕ). opened (number_at (drop 8 (drop 1 bytes))) (batches_at 17 0 l))
+          (ne_eqb (spelled_number (drop 8 (drop 1 bytes))) 0 (λ zero. some (sym number_here ∙ zero))))
+          ∙ ap (λ (l : List ℕ). opened (spelled_number (drop 8 (drop 1 bytes))) (batches_at 17 0 l))
           (drop_all 8 (drop 8 (drop 1 bytes)) (omega (arith, ap length nine, length-drop 9 bytes)))
 
       pub whole_head : (from_be_bytes w64 number ≡ 0 → ⊥) → IsFront (from_be_bytes w64 number) 17 (take 17 bytes) []

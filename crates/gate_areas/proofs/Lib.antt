@@ -3,12 +3,12 @@ pub mod Behind
 pub mod Choosing
 pub mod EndRepair
 pub mod Found
+pub mod FrameLemmas
 pub mod Fronts
 pub mod Gates
 pub mod Heads
 pub mod Made
 pub mod Making
-pub mod Quiet
 pub mod Rest
 pub mod Room
 pub mod Runs

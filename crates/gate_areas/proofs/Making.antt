@@ -7,7 +7,7 @@ use Rattle.std.specs.Prelude.{◌||◌}
 use Rattle.std.proofs.lemmas.List.{take-append-le, drop-append-le, drop_at, drop-drop, length-drop}
 use Rattle.std.proofs.lemmas.Nat.{from_be_bytes-to_be_bytes_8}
 use Rattle.disk_trait.specs.Disk.{Torn, Written}
-use Rattle.gate_areas.specs.Sealed.{BatchList, Blank, is_open, number_at, batches_at, opened, with_front, sealed_of, text_of, MAGIC, CLOSED, OPEN}
+use Rattle.gate_areas.specs.Sealed.{BatchList, Blank, is_open, spelled_number, batches_at, opened, with_front, sealed_of, area_text, MAGIC, CLOSED, OPEN}
 use Rattle.gate_areas.specs.Fronts.{IsFront}
 use Rattle.gate_areas.specs.Steps.{Blanking, Blanks, Grows, GrowsBy, Making, Makes}
 use Rattle.gate_areas.proofs.Gates.{torn_gate, written_gate}
@@ -48,13 +48,13 @@ module _ (text old : List ℕ) where
   gate_made mid new is written = written_gate [] CLOSED 0 refl text OPEN new (subst (λ (l : List ℕ). Written 0 (OPEN ∷ []) l new) is written)
 
 -- what stands behind the first gate follows the rest of the text
-pub text_is : (generation gate : ℕ) (rest : List ℕ) → text_of generation gate [] ++ rest ≡ text_of generation gate rest
-unfolding text_of
+pub text_is : (generation gate : ℕ) (rest : List ℕ) → area_text generation gate [] ++ rest ≡ area_text generation gate rest
+unfolding area_text
 text_is generation gate rest = append_assoc (MAGIC ++ to_be_bytes w64 generation) (gate ∷ []) rest
 
 -- A whole head is the front of an area with no batch yet.
 module _ (head : List ℕ) (generation : ℕ) (long : length head ≡ 17) (is_open_head : is_open head ≡ true)
-    (magic : bytes_eq (take 8 (drop 1 head)) MAGIC ≡ true) (number : number_at (drop 9 head) ≡ generation) (some : 1 ≤ generation) where
+    (magic : bytes_eq (take 8 (drop 1 head)) MAGIC ≡ true) (number : spelled_number (drop 9 head) ≡ generation) (some : 1 ≤ generation) where
   more : (k : ℕ) (rest : List ℕ) → k ≤ 17 → drop k (head ++ rest) ≡ drop k head ++ rest
   more k rest le = drop-append-le k head rest (omega (arith, long))
 
@@ -67,12 +67,12 @@ module _ (head : List ℕ) (generation : ℕ) (long : length head ≡ 17) (is_op
       drop-drop 8 8 all ∙ drop-drop 16 1 (head ++ gate ∷ rest) ∙ drop_at head (gate ∷ rest) 17 long in
       let is_magic : bytes_eq (take 8 all) MAGIC ≡ true =
       ap (λ (l : List ℕ). bytes_eq (take 8 l) MAGIC) one ∙ ap (λ (l : List ℕ). bytes_eq l MAGIC) (take-append-le 8 (drop 1 head) (gate ∷ rest) (omega (arith, long, length-drop 1 head))) ∙ magic in
-      let is_number : number_at (drop 8 all) ≡ generation = ap number_at nine ∙ number_front (drop 9 head) (gate ∷ rest) (omega (arith, long, length-drop 9 head)) ∙ number in
+      let is_number : spelled_number (drop 8 all) ≡ generation = ap spelled_number nine ∙ number_front (drop 9 head) (gate ∷ rest) (omega (arith, long, length-drop 9 head)) ∙ number in
       let long_enough : ltb (length (drop 8 all)) 8 ≡ false = le-ltb (length (drop 8 all)) 8 (omega (arith, ap length nine, length-append (drop 9 head) (gate ∷ rest), long, length-drop 9 head)) in
-      let not_zero : eqb (number_at (drop 8 all)) 0 ≡ false = ne_eqb (number_at (drop 8 all)) 0 (λ zero. absurd (omega (arith, zero, is_number, some))) in
+      let not_zero : eqb (spelled_number (drop 8 all)) 0 ≡ false = ne_eqb (spelled_number (drop 8 all)) 0 (λ zero. absurd (omega (arith, zero, is_number, some))) in
       cond-true (is_open (head ++ gate ∷ rest)) _ _ (head_open gate rest)
       ∙ cond-true (bytes_eq (take 8 all) MAGIC) _ _ is_magic
-      ∙ cond-false (ltb (length (drop 8 all)) 8 || eqb (number_at (drop 8 all)) 0) _ _ (or_from _ _ long_enough not_zero)
+      ∙ cond-false (ltb (length (drop 8 all)) 8 || eqb (spelled_number (drop 8 all)) 0) _ _ (or_from _ _ long_enough not_zero)
       ∙ ap (λ (n : ℕ). opened n (batches_at 17 0 (drop 8 (drop 8 all)))) is_number
       ∙ ap (λ (l : List ℕ). opened generation (batches_at 17 0 l)) seventeen
       ∙ ap (λ r. opened generation r) (sym (no_front (batches_at 17 0 (gate ∷ rest))))
@@ -92,9 +92,9 @@ module _ (head : List ℕ) (generation : ℕ) (long : length head ≡ 17) (is_op
 -- the front of an area that was made
 module _ (generation : ℕ) (small : generation < 2 ^ 64) (some : 1 ≤ generation) where
   pub made_front : IsFront generation 17 (OPEN ∷ (MAGIC ++ to_be_bytes w64 generation)) []
-  unfolding number_at
+  unfolding spelled_number
   made_front = head_front (OPEN ∷ (MAGIC ++ to_be_bytes w64 generation)) generation refl refl refl (from_be_bytes-to_be_bytes_8 generation small) some
 
-  pub made_text : (gate : ℕ) (rest : List ℕ) → OPEN ∷ text_of generation gate rest ≡ (OPEN ∷ (MAGIC ++ to_be_bytes w64 generation)) ++ gate ∷ rest
-  unfolding text_of
+  pub made_text : (gate : ℕ) (rest : List ℕ) → OPEN ∷ area_text generation gate rest ≡ (OPEN ∷ (MAGIC ++ to_be_bytes w64 generation)) ++ gate ∷ rest
+  unfolding area_text
   made_text gate rest = refl

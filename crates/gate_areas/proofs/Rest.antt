@@ -1,5 +1,5 @@
 -- An area at rest: batches, and a closed gate, which is its last byte. The other area counts for nothing.
-use Rattle.std.proofs.Common.{◌≡◌, ◌⊎◌, inl, inr, ⊎_elim, ℕ, ◌+◌, ◌<◌, ◌^◌, List, [], ◌∷◌, ◌++◌, length, take, drop, true, false, Ok, refl, sym, ◌∙◌, ap, subst, arith, append_assoc, length-append}
+use Rattle.std.proofs.Common.{◌≡◌, ◌⊎◌, inl, inr, ⊎_elim, ℕ, ◌+◌, ◌<◌, ◌^◌, List, [], ◌∷◌, ◌++◌, length, take, drop, true, false, refl, sym, ◌∙◌, ap, subst, arith, append_assoc, length-append}
 use Rattle.std.specs.Int.{w64, to_be_bytes}
 use Rattle.std.proofs.lemmas.Bool.{cases_Bool, eqb-true}
 use Rattle.std.proofs.lemmas.Nat.{from_be_bytes-to_be_bytes_8}
@@ -7,10 +7,10 @@ use Rattle.std.proofs.lemmas.List.{take_at, drop_at, length-take-le}
 use Rattle.disk_trait.specs.declared.area.Area.{Area}
 use Rattle.disk_trait.specs.Areas.{Areas, area_of, other_area}
 use Rattle.disk_trait.specs.Disk.{OnArea}
-use Rattle.gate_areas.specs.Sealed.{BatchList, Open, is_open, number_at, sealed_of, CLOSED, OPEN}
+use Rattle.gate_areas.specs.Sealed.{BatchList, Open, is_open, spelled_number, sealed_of, CLOSED, OPEN}
 use Rattle.gate_areas.specs.Frames.{frame_of}
 use Rattle.gate_areas.specs.Fronts.{IsFront, batches_of, batches_before}
-use Rattle.gate_areas.specs.Found.{meaning_of, batches_in, counts_for_nothing, IsBeforeOrAfter}
+use Rattle.gate_areas.specs.Found.{Live, found_of, counts_for_nothing}
 use Rattle.gate_areas.specs.Rest.{AtRest}
 use Rattle.gate_areas.specs.Steps.{Sealing, Seals}
 use Rattle.gate_areas.proofs.Found.{lives}
@@ -51,18 +51,13 @@ module _ (area : Area) (generation gate : ℕ) (areas : Areas) (front : List ℕ
         (ap sealed_of is ∙ shut_front generation gate CLOSED front [] batches is_front refl ∙ ap (λ (bs : BatchList). Open generation bs) (sym before)) alone;
   }
 
--- what an open area stands for beside one that counts for nothing
-pub stands : (area : Area) (generation : ℕ) (batches : BatchList) (areas : Areas) → sealed_of (area_of area areas) ≡ Open generation batches
-    → counts_for_nothing generation (sealed_of (area_of (other_area area) areas)) ≡ true → batches_in areas ≡ Ok batches
-stands area generation batches areas is alone = ap meaning_of (lives generation batches area areas is alone)
-
 -- a frame behind an open gate is one batch more
 module _ (generation gate : ℕ) (front payload : List ℕ) (batches : BatchList) (small : length payload < 2 ^ 64) (is_front : IsFront generation gate front batches) where
   body : List ℕ
   body = to_be_bytes w64 (length payload) ++ payload
 
-  number : number_at (to_be_bytes w64 (length payload) ++ payload) ≡ length payload
-  unfolding number_at
+  number : spelled_number (to_be_bytes w64 (length payload) ++ payload) ≡ length payload
+  unfolding spelled_number
   number = from_be_bytes-to_be_bytes_8 (length payload) small
 
   pub sealed_front : IsFront generation (gate + 9 + length payload) (front ++ OPEN ∷ (to_be_bytes w64 (length payload) ++ payload)) (batches ++ (gate, payload) ∷ [])
@@ -89,12 +84,13 @@ module _ (area : Area) (generation gate : ℕ) (given : Areas) (payload : List �
   alone_still : (image : Areas) → area_of (other_area area) image ≡ area_of (other_area area) given → counts_for_nothing generation (sealed_of (area_of (other_area area) image)) ≡ true
   alone_still image elsewhere = ap (λ (l : List ℕ). counts_for_nothing generation (sealed_of l)) elsewhere ∙ rests.alone
 
-  pub sealing : (image : Areas) → OnArea area (Sealing gate (frame_of payload)) given image → IsBeforeOrAfter (batches_before gate (area_of area given)) (gate, payload) image
+  pub sealing : (image : Areas) → OnArea area (Sealing gate (frame_of payload)) given image
+      → (found_of image ≡ Live area generation (batches_before gate (area_of area given))) ⊎ (found_of image ≡ Live area generation (batches_before gate (area_of area given) ++ (gate, payload) ∷ []))
   sealing image step = elim step.here [
-    | inl behind ↦ inl (stands area generation _ image (ap sealed_of behind.1 ∙ shut_front generation gate CLOSED (take gate (area_of area given)) behind.0 _ rests.front (closed_shut behind.0)) (alone_still image step.elsewhere))
+    | inl behind ↦ inl (lives generation _ area image (ap sealed_of behind.1 ∙ shut_front generation gate CLOSED (take gate (area_of area given)) behind.0 _ rests.front (closed_shut behind.0)) (alone_still image step.elsewhere))
     | inr gates ↦ ⊎_elim
-        (λ is. inl (stands area generation _ image (ap sealed_of gates.1 ∙ is) (alone_still image step.elsewhere)))
-        (λ is. inr (stands area generation _ image (ap sealed_of gates.1 ∙ is) (alone_still image step.elsewhere)))
+        (λ is. inl (lives generation _ area image (ap sealed_of gates.1 ∙ is) (alone_still image step.elsewhere)))
+        (λ is. inr (lives generation _ area image (ap sealed_of gates.1 ∙ is) (alone_still image step.elsewhere)))
         (gated generation gate (take gate (area_of area given)) payload _ small rests.front gates.0)
   ]
 

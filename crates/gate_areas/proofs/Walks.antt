@@ -1,9 +1,11 @@
 -- From gate to gate.
-use Rattle.std.proofs.Common.{◌≡◌, ℕ, suc, ◌+◌, ◌≤◌, ◌<◌, List, [], ◌∷◌, ◌++◌, length, get_or, take, drop, true, false, Bool, cond, Result, Ok, Err, refl, sym, ◌∙◌, ap, subst, arith, take-append-drop}
-use Rattle.std.proofs.lemmas.List.{take-take, drop-drop, drop_more, drop_all, length-take-le, append-nil}
+use Rattle.std.proofs.Common.{◌≡◌, ℕ, suc, ◌+◌, ◌-◌, ◌≤◌, ◌<◌, List, [], ◌∷◌, ◌++◌, length, get_or, take, drop, true, false, Bool, cond, Result, Ok, Err, refl, sym, ◌∙◌, ap, subst, arith, take-append-drop, length-append}
+use Rattle.std.proofs.lemmas.List.{take-take, drop-drop, drop-take, drop_more, drop_all, length-take-le, append-nil}
+use Rattle.std.proofs.lemmas.List.Elements.{All-weaker, All-push}
 use Rattle.std.proofs.Math.Seq.{take-add}
-use Rattle.gate_areas.specs.Sealed.{BatchList, Blank, Open, Fault, is_open, is_whole, number_at, payload_at, with_front, batches_at, opened, sealed_of, CLOSED, OPEN}
+use Rattle.gate_areas.specs.Sealed.{BatchList, Blank, Open, Fault, is_open, is_whole, spelled_number, payload_at, with_front, batches_at, opened, sealed_of, CLOSED, OPEN}
 use Rattle.gate_areas.specs.Fronts.{IsFront}
+use Rattle.gate_areas.specs.LiveBatches.{EndBy}
 use Rattle.gate_areas.specs.Scan.{GateIs}
 use Rattle.gate_areas.specs.declared.scan.Gate.{Gate}
 use Rattle.gate_areas.specs.declared.scan.Gate.TheVariants as gate
@@ -34,22 +36,22 @@ module _ (place : ℕ) (bytes : List ℕ) (within : place < length bytes) where
       ap (λ (l : List ℕ). batches_at place 0 l) here
       ∙ at_broken place (get_or bytes place 0) (drop (place + 1) bytes) (ap is_open (sym here) ∙ opens) (ap is_whole (sym next) ∙ broken)
 
-  module _ (n : ℕ) (opens : is_open (drop place bytes) ≡ true) (number : number_at (drop 1 (drop place bytes)) ≡ n) (whole : 8 + n < length (drop 1 (drop place bytes))) where
-    number_next : number_at (drop (place + 1) bytes) ≡ n
-    number_next = ap number_at (sym next) ∙ number
+  module _ (n : ℕ) (opens : is_open (drop place bytes) ≡ true) (number : spelled_number (drop 1 (drop place bytes)) ≡ n) (whole : 8 + n < length (drop 1 (drop place bytes))) where
+    number_next : spelled_number (drop (place + 1) bytes) ≡ n
+    number_next = ap spelled_number (sym next) ∙ number
 
     pub walk_open : batches_at place 0 (drop place bytes) ≡ with_front ((place, take n (drop (place + 9) bytes)) ∷ []) (batches_at (place + (9 + n)) 0 (drop (place + (9 + n)) bytes))
     walk_open =
         let rest = drop (place + 1) bytes in
         let payload : payload_at rest ≡ take n (drop (place + 9) bytes) =
         ap (λ (k : ℕ). take k (drop 8 rest)) number_next ∙ ap (λ (l : List ℕ). take n l) (drop-drop 8 (place + 1) bytes ∙ ap (λ (k : ℕ). drop k bytes) (omega arith)) in
-        let after : drop (8 + number_at rest) rest ≡ drop (place + (9 + n)) bytes =
-        drop-drop (8 + number_at rest) (place + 1) bytes ∙ ap (λ (k : ℕ). drop k bytes) (omega (arith, number_next)) in
-        let at : place + 9 + number_at rest ≡ place + (9 + n) = omega (arith, number_next) in
+        let after : drop (8 + spelled_number rest) rest ≡ drop (place + (9 + n)) bytes =
+        drop-drop (8 + spelled_number rest) (place + 1) bytes ∙ ap (λ (k : ℕ). drop k bytes) (omega (arith, number_next)) in
+        let at : place + 9 + spelled_number rest ≡ place + (9 + n) = omega (arith, number_next) in
         ap (λ (l : List ℕ). batches_at place 0 l) here
         ∙ at_open place (get_or bytes place 0) rest (ap is_open (sym here) ∙ opens) (omega (arith, number_next, ap length next, whole))
-        ∙ ap (λ (p : List ℕ). with_front ((place, p) ∷ []) (batches_at (place + 9 + number_at rest) 0 (drop (8 + number_at rest) rest))) payload
-        ∙ ap (λ (l : List ℕ). with_front ((place, take n (drop (place + 9) bytes)) ∷ []) (batches_at (place + 9 + number_at rest) 0 l)) after
+        ∙ ap (λ (p : List ℕ). with_front ((place, p) ∷ []) (batches_at (place + 9 + spelled_number rest) 0 (drop (8 + spelled_number rest) rest))) payload
+        ∙ ap (λ (l : List ℕ). with_front ((place, take n (drop (place + 9) bytes)) ∷ []) (batches_at (place + 9 + spelled_number rest) 0 l)) after
         ∙ ap (λ (k : ℕ). with_front ((place, take n (drop (place + 9) bytes)) ∷ []) (batches_at k 0 (drop (place + (9 + n)) bytes))) at
 
     pub front_on : (generation : ℕ) (batches : BatchList) → IsFront generation place (take place bytes) batches
@@ -58,9 +60,9 @@ module _ (place : ℕ) (bytes : List ℕ) (within : place < length bytes) where
         let rest = drop (place + 1) bytes in
         let body = take (8 + n) rest in
         let room : 8 + n ≤ length rest = omega (arith, ap length next, whole) in
-        let body_number : number_at body ≡ n =
+        let body_number : spelled_number body ≡ n =
         number_is body (take 8 rest) (sym (take-take 8 (8 + n) rest (omega arith))) ∙ sym (number_is rest (take 8 rest) refl) ∙ number_next in
-        let at : place + 9 + number_at body ≡ place + (9 + n) = omega (arith, body_number) in
+        let at : place + 9 + spelled_number body ≡ place + (9 + n) = omega (arith, body_number) in
         let is : take (place + (9 + n)) bytes ≡ take place bytes ++ OPEN ∷ body =
         take-add place (9 + n) bytes ∙ ap (λ (l : List ℕ). take place bytes ++ take (9 + n) l) here
         ∙ ap (λ (k : ℕ). take place bytes ++ take k (get_or bytes place 0 ∷ rest)) (nine_more n)
@@ -131,3 +133,26 @@ pub ends_here : (read : Gate) → ((n : ℕ) → read ≡ gate.Open n → ⊥) �
 ends_here gate.Shut not_open place bytes within is found batches whole so_far all = read_all found batches _ whole so_far all (walk_shut place bytes within is)
 ends_here gate.Broken not_open place bytes within is found batches whole so_far all = absurd (never_broken found batches _ whole (place + 1) so_far all (walk_broken place bytes within is.0 is.1))
 ends_here (gate.Open n) not_open place bytes within is found batches whole so_far all = absurd (not_open n refl)
+
+-- batches that end by a gate, and one more
+pub ends_later : (gate later : ℕ) (batches : BatchList) → gate ≤ later → EndBy gate batches → EndBy later batches
+ends_later gate later batches le ends = record {
+  few = omega (arith, ends.few);
+  each = All-weaker (λ batch. batch.0 + 9 + length batch.1 ≤ gate) (λ batch. batch.0 + 9 + length batch.1 ≤ later) (λ batch fits. omega (arith, fits)) batches ends.each;
+}
+
+pub one_more : (gate place : ℕ) (payload : List ℕ) (batches more : BatchList) → more ≡ batches ++ (place, payload) ∷ [] → place + 9 + length payload ≤ gate
+    → EndBy place batches → EndBy gate more
+one_more gate place payload batches more is fits ends = subst (EndBy gate) (sym is) (record {
+  few = omega (arith, ends.few, length-append batches ((place, payload) ∷ []));
+  each = All-push (λ batch. batch.0 + 9 + length batch.1 ≤ gate) batches (place, payload) (ends_later place gate batches (omega arith) ends).each fits;
+})
+
+-- what was read behind a payload
+pub read_behind : (read all : List ℕ) (from len n : ℕ) → read ≡ take (len + n) (drop from all) → length read ≡ len + n
+    → take (length read - len) (drop len read) ≡ take n (drop (from + len) all)
+read_behind read all from len n is long =
+    let rest : length read - len ≡ n = omega (arith, long) in
+    ap (λ (k : ℕ). take k (drop len read)) rest ∙ ap (λ (l : List ℕ). take n (drop len l)) is
+    ∙ ap (λ (l : List ℕ). take n l) (drop-take len n (drop from all)) ∙ take-take n n (drop len (drop from all)) (omega arith)
+    ∙ ap (λ (l : List ℕ). take n l) (drop-drop len from all)

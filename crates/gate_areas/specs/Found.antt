@@ -1,10 +1,8 @@
 -- What the bytes of both areas stand for: the batches of the live area.
-use Rattle.std.specs.Prelude.{◌≡◌, ◌⊎◌, ℕ, ◌<◌, List, [], ◌∷◌, ◌++◌, length, Bool, true, false, Result, Ok, Err, if◌then◌else◌, ◌==◌, nat_lt}
-use Rattle.std.proofs.Common.{inl, inr, ap, arith, length-append}
-use Rattle.std.proofs.Props.{props}
+use Rattle.std.specs.Prelude.{◌≡◌, ◌⊎◌, ℕ, ◌<◌, [], Bool, true, false, Result, Ok, Err, if◌then◌else◌, ◌==◌, nat_lt}
 use Rattle.disk_trait.specs.declared.area.Area.{Area}
 use Rattle.disk_trait.specs.declared.area.Area.TheVariants.{Zero, One}
-use Rattle.disk_trait.specs.Areas.{Areas, other_area}
+use Rattle.disk_trait.specs.Areas.{Areas, area_of, other_area}
 use Rattle.gate_areas.specs.Sealed.{BatchList, Sealed, Blank, Open, Fault, sealed_of}
 
 -- what the areas of a disk stand for
@@ -53,29 +51,16 @@ HasRoom area generation Nothing = Unit {0}
 HasRoom area generation (Live live lesser batches) = (live ≡ other_area area) × (lesser < generation)
 HasRoom area generation (Damaged damaged place) = ⊥
 
--- the areas stand for the same as before
-abbrev pub SameBatches : (before after : Areas) → Type 0
-SameBatches before after = batches_in after ≡ batches_in before
+-- The same is found as before, or now this.
+abbrev pub SameFoundOr : Found → (before after : Areas) → Type 0
+SameFoundOr new before after = (found_of after ≡ found_of before) ⊎ (found_of after ≡ new)
 
--- the areas stand for the same as before, or for these batches
-abbrev pub SameBatchesOr : BatchList → (before after : Areas) → Type 0
-SameBatchesOr batches before after = (batches_in after ≡ batches_in before) ⊎ (batches_in after ≡ Ok batches)
+-- While a new area takes over: the same is found as before, or now this. The other area stays as it was.
+pub record TakesOver (area : Area) (new : Found) (before after : Areas) : Type 0 where
+  pub found : SameFoundOr new before after
+  pub elsewhere : area_of (other_area area) after ≡ area_of (other_area area) before
 
--- the areas stand for these batches, or for these and one more
-abbrev pub IsBeforeOrAfter : BatchList → ℕ × List ℕ → Areas → Type 0
-IsBeforeOrAfter batches batch areas = (batches_in areas ≡ Ok batches) ⊎ (batches_in areas ≡ Ok (batches ++ batch ∷ []))
-
--- It has at most one proof, so that a ghost field can keep it: the two cases exclude each other.
-pub is_before_or_after_prop : (batches : BatchList) (batch : ℕ × List ℕ) (areas : Areas) → IsProp (IsBeforeOrAfter batches batch areas)
-is_before_or_after_prop batches batch areas = apart (hlevel props) (hlevel props) never_both
-  where
-    apart : {A B : Type 0} → IsProp A → IsProp B → (A → B → ⊥) → IsProp (A ⊎ B)
-    apart one other never (inl a) (inl b) = ap (λ x. inl x) (one a b)
-    apart one other never (inl a) (inr b) = absurd (never a b)
-    apart one other never (inr a) (inl b) = absurd (never b a)
-    apart one other never (inr a) (inr b) = ap (λ x. inr x) (other a b)
-
-    never_both : batches_in areas ≡ Ok batches → batches_in areas ≡ Ok (batches ++ batch ∷ []) → ⊥
-    never_both before after =
-        let same : batches ≡ batches ++ batch ∷ [] = cc in
-        omega (arith, ap length same, length-append batches (batch ∷ []))
+-- While the end of an area is repaired: the same is found as before, and the other area stays as it was.
+pub record KeepsFound (area : Area) (before after : Areas) : Type 0 where
+  pub found : found_of after ≡ found_of before
+  pub elsewhere : area_of (other_area area) after ≡ area_of (other_area area) before

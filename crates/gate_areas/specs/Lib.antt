@@ -1,6 +1,5 @@
 pub use Rattle.disk_trait.specs.Areas
 pub use Rattle.disk_trait.specs.Disk
-pub use Rattle.disk_trait.specs.Moments
 pub use Rattle.edge_traits.specs.Faults
 pub mod Choice
 pub mod Found
@@ -11,4 +10,3 @@ pub mod Rest
 pub mod Scan
 pub mod Sealed
 pub mod Steps
-pub mod Untouched

@@ -1,7 +1,7 @@
 -- What is read of a gate, of a head and of an area, without the payloads.
 use Rattle.std.specs.Prelude.{◌≡◌, ℕ, ◌+◌, ◌-◌, ◌^◌, ◌<◌, ◌≤◌, List, [], length, take, drop, true, false}
-use Rattle.gate_areas.specs.Sealed.{BatchList, Blank, Fault, is_open, is_whole, number_at, sealed_of}
-use Rattle.gate_areas.specs.Fronts.{IsFront}
+use Rattle.gate_areas.specs.Sealed.{BatchList, Blank, Open, Fault, is_open, is_whole, spelled_number, sealed_of}
+use Rattle.gate_areas.specs.Fronts.{IsFront, batches_before}
 use Rattle.gate_areas.specs.declared.scan.Gate.{Gate}
 use Rattle.gate_areas.specs.declared.scan.Gate.TheVariants as gate
 use Rattle.gate_areas.specs.declared.scan.Head.{Head}
@@ -13,7 +13,7 @@ use Rattle.gate_areas.specs.declared.scan.Scan.TheVariants as scan
 abbrev pub GateIs : Gate → List ℕ → Type 0
 GateIs gate.Shut bytes = is_open bytes ≡ false
 GateIs gate.Broken bytes = (is_open bytes ≡ true) × (is_whole (drop 1 bytes) ≡ false)
-GateIs (gate.Open n) bytes = (is_open bytes ≡ true) × (number_at (drop 1 bytes) ≡ n) × (8 + n < length (drop 1 bytes))
+GateIs (gate.Open n) bytes = (is_open bytes ≡ true) × (spelled_number (drop 1 bytes) ≡ n) × (8 + n < length (drop 1 bytes))
 
 -- a payload behind an open gate at this place ends before the end
 abbrev pub GateFits : Gate → (place end : ℕ) → Type 0
@@ -58,3 +58,9 @@ abbrev pub ScanFits : Scan → ℕ → Type 0
 ScanFits scan.Blank len = Unit {0}
 ScanFits (scan.Broken place) len = Unit {0}
 ScanFits (scan.Open generation place) len = IsGatePlace place len
+
+-- what an area was read as, by what its bytes stand for
+abbrev pub StandsAs : Scan → List ℕ → Type 0
+StandsAs scan.Blank bytes = sealed_of bytes ≡ Blank
+StandsAs (scan.Broken place) bytes = sealed_of bytes ≡ Fault place
+StandsAs (scan.Open generation gate) bytes = sealed_of bytes ≡ Open generation (batches_before gate bytes)

@@ -21,16 +21,16 @@ is_open (gate ∷ []) = false
 is_open (gate ∷ next ∷ rest) = gate == 0xa5
 
 -- the number that the first eight bytes spell, the highest first
-unfoldable pub number_at : List ℕ → ℕ
-number_at bytes = from_be_bytes w64 (take 8 bytes)
+unfoldable pub spelled_number : List ℕ → ℕ
+spelled_number bytes = from_be_bytes w64 (take 8 bytes)
 
 -- Whether the bytes behind a gate are a whole length, a payload so long, and one byte more at least.
 abbrev pub is_whole : List ℕ → Bool
-is_whole bytes = nat_lt (8 + number_at bytes) (length bytes)
+is_whole bytes = nat_lt (8 + spelled_number bytes) (length bytes)
 
 -- the payload behind a gate
 abbrev pub payload_at : List ℕ → List ℕ
-payload_at bytes = take (number_at bytes) (drop 8 bytes)
+payload_at bytes = take (spelled_number bytes) (drop 8 bytes)
 
 -- batches, and then what is read behind them
 abbrev pub with_front : BatchList → Result BatchList ℕ → Result BatchList ℕ
@@ -43,7 +43,7 @@ abbrev pub batches_at : (place skip : ℕ) → List ℕ → Result BatchList ℕ
 batches_at place skip [] = Err place
 batches_at place (suc skip) (byte ∷ bytes) = batches_at (place + 1) skip bytes
 batches_at place zero (gate ∷ bytes) =
-    if is_open (gate ∷ bytes) then (if is_whole bytes then with_front ((place, payload_at bytes) ∷ []) (batches_at (place + 1) (8 + number_at bytes) bytes) else Err (place + 1)) else Ok []
+    if is_open (gate ∷ bytes) then (if is_whole bytes then with_front ((place, payload_at bytes) ∷ []) (batches_at (place + 1) (8 + spelled_number bytes) bytes) else Err (place + 1)) else Ok []
 
 -- what an area stands for
 pub data Sealed : Type 0 where
@@ -66,12 +66,12 @@ MAGIC = 0x49 ∷ 0x44 ∷ 0x42 ∷ 0x4c ∷ 0x4f ∷ 0x47 ∷ 0x30 ∷ 0x31 ∷ 
 abbrev pub behind_head : List ℕ → Sealed
 behind_head bytes =
     let rest = drop 8 bytes in
-    if bytes_eq (take 8 bytes) MAGIC then (if nat_lt (length rest) 8 || (number_at rest == 0) then Fault 9 else opened (number_at rest) (batches_at 17 0 (drop 8 rest))) else Fault 1
+    if bytes_eq (take 8 bytes) MAGIC then (if nat_lt (length rest) 8 || (spelled_number rest == 0) then Fault 9 else opened (spelled_number rest) (batches_at 17 0 (drop 8 rest))) else Fault 1
 
 -- what the bytes of an area stand for
 abbrev pub sealed_of : List ℕ → Sealed
 sealed_of bytes = if is_open bytes then behind_head (drop 1 bytes) else Blank
 
 -- what stands behind the head gate of an area: the magic, the generation, the first gate, and the bytes behind that
-unfoldable pub text_of : (generation gate : ℕ) → List ℕ → List ℕ
-text_of generation gate rest = MAGIC ++ to_be_bytes w64 generation ++ gate ∷ rest
+unfoldable pub area_text : (generation gate : ℕ) → List ℕ → List ℕ
+area_text generation gate rest = MAGIC ++ to_be_bytes w64 generation ++ gate ∷ rest

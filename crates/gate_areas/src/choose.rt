@@ -22,29 +22,33 @@ pub enum Choice {
 
 /// Which of two areas is live.
 pub fn choose(zero: Scan, one: Scan) -> Choice
-    ensures choice { (areas : Areas) → ScanIs zero areas.zero → ScanIs one areas.one → ChoiceEnds result areas }
-    ensures fits { (length_of : Area → ℕ) → ScanFits zero (length_of Area.Zero) → ScanFits one (length_of Area.One)
-        → ChoiceFits result length_of }
+    ensures choice { (areas : Areas) → ScanIs zero areas.zero → ScanIs one areas.one
+        → ChoiceEnds result areas }
+    ensures fits { (lengths : Area → ℕ) → ScanFits zero (lengths Area.Zero) → ScanFits one (lengths Area.One)
+        → ChoiceFits result lengths }
 {
     match zero {
         Scan::Broken(place) => Choice::Damaged(Area::Zero, place),
         Scan::Blank => match one {
             Scan::Broken(place) => Choice::Damaged(Area::One, place),
             Scan::Blank => Choice::New,
-            Scan::Open(generation, gate) => Choice::Live(LiveArea {
+            Scan::Open { generation, gate } => Choice::Live(LiveArea {
                 area: Area::One,
                 generation,
                 gate,
             }),
         },
-        Scan::Open(generation, gate) => match one {
+        Scan::Open { generation, gate } => match one {
             Scan::Broken(place) => Choice::Damaged(Area::One, place),
             Scan::Blank => Choice::Live(LiveArea {
                 area: Area::Zero,
                 generation,
                 gate,
             }),
-            Scan::Open(other, end) => greater(generation, gate, other, end),
+            Scan::Open {
+                generation: other,
+                gate: end,
+            } => greater(generation, gate, other, end),
         },
     }
 }
@@ -52,8 +56,10 @@ pub fn choose(zero: Scan, one: Scan) -> Choice
 // The greater of two generations, that of area 0 first, each with the place of its last gate.
 fn greater(zero: u64, gate: u64, one: u64, end: u64) -> Choice
     ensures same { zero ≡ one → result ≡ Choice.Damaged Area.One 9 }
-    ensures first { one < zero → result ≡ Choice.Live (record { area = Area.Zero; generation = zero; gate = gate }) }
-    ensures second { zero < one → result ≡ Choice.Live (record { area = Area.One; generation = one; gate = end }) }
+    ensures first { one < zero
+        → result ≡ Choice.Live (record { area = Area.Zero; generation = zero; gate = gate }) }
+    ensures second { zero < one
+        → result ≡ Choice.Live (record { area = Area.One; generation = one; gate = end }) }
 {
     if zero == one {
         Choice::Damaged(Area::One, 9)

@@ -7,27 +7,26 @@
 mod batches;
 mod choose;
 mod collecting;
-mod find;
 mod frame;
 mod live;
 mod make;
-mod reads;
 mod repairing;
 mod scan;
 mod sealing;
+mod survey;
 mod sync;
 
 pub use batches::{Batch, Batches, Payload};
 pub use choose::Choice;
-pub use collecting::{ReadError, collect};
+pub use collecting::{CollectError, collect};
 pub use disk_trait::{Area, Disk, Failed};
-pub use edge_traits::NoMemory;
-pub use find::find_live;
 pub use frame::Frame;
 pub use live::LiveArea;
 pub use make::{make_area, make_area_with};
 pub use repairing::repair;
+pub use scan::Scan;
 pub use sealing::seal;
+pub use survey::{Survey, find_live, survey_areas};
 pub use sync::sync_both;
 
 #[cfg(test)]

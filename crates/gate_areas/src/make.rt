@@ -3,8 +3,8 @@ ghost use Rattle.std.specs.Prelude.{◌≡◌, ◌+◌, ◌-◌, ◌^◌, ◌<�
 ghost use Rattle.std.specs.Int.{to_be_bytes};
 ghost use Rattle.edge_traits.specs.Faults.{HasFaultCause};
 ghost use Rattle.disk_trait.specs.Disk.{WhereTold, OnArea, Leads, IsSettled, ComesFrom, LeavesOnly};
-ghost use Rattle.gate_areas.specs.Sealed.{text_of};
-ghost use Rattle.gate_areas.specs.Found.{found_of, HasRoom, SameBatchesOr};
+ghost use Rattle.gate_areas.specs.Sealed.{area_text};
+ghost use Rattle.gate_areas.specs.Found.{Live, found_of, HasRoom, TakesOver};
 ghost use Rattle.gate_areas.specs.LiveBatches.{IsMade, Holds};
 ghost use Rattle.gate_areas.specs.Scan.{IsGatePlace};
 ghost use Rattle.gate_areas.specs.Steps.{Blanking, Blanks, Grows, GrowsBy, Making, Makes};
@@ -21,19 +21,19 @@ const CLOSED: u8 = 0;
 /// Makes a new live area, with no batch. Until its head gate is opened by one byte, with all of it on the disk, the areas
 /// stand for what they did.
 pub fn make_area<D: Disk>(disk: &mut D, area: Area, generation: u64) -> Result<LiveArea, Failed>
-    requires settled { IsSettled (D.reads disk.old) (D.may_leave disk.old) }
-    requires room { WhereTold (D.reads disk.old) (λ areas. HasRoom area generation (found_of areas)) }
+    requires settled { IsSettled (D.shows disk.old) }
+    requires room { WhereTold (D.shows disk.old) (λ areas. HasRoom area generation (found_of areas)) }
     requires generation { 1 ≤ generation }
 
-    ensures made { IfOk result (λ live. WhereTold (D.reads disk.new) (Holds live [])) }
-    ensures here { IfOk result (IsMade area generation) }
-    ensures settled { OnOk result (IsSettled (D.reads disk.new) (D.may_leave disk.new)) }
-    ensures any_moment { LeavesOnly D.moment D.left_since disk.old disk.new
-        (ComesFrom (SameBatchesOr []) (D.reads disk.old)) }
+    ensures made { IfOk result (λ live. WhereTold (D.shows disk.new) (Holds live [])) }
+    ensures here { IfOk result (IsMade area generation 17) }
+    ensures settled { OnOk result (IsSettled (D.shows disk.new)) }
+    ensures any_moment { LeavesOnly (D.shows disk.old) (D.shows disk.new)
+        (ComesFrom (TakesOver area (Live area generation [])) (D.shows disk.old)) }
 
-    ensures fits { IfOk result (λ live. IsGatePlace live.gate (D.length_of disk.new live.area)) }
-    ensures length { IfOk result (λ live. D.length_of disk.new live.area ≡ live.gate + 1) }
-    ensures cause { HasFaultCause (D.faults disk.old) (D.faults disk.new) result }
+    ensures fits { IfOk result (λ live. IsGatePlace live.gate ((D.shows disk.new).lengths live.area)) }
+    ensures length { IfOk result (λ live. (D.shows disk.new).lengths live.area ≡ live.gate + 1) }
+    ensures cause { HasFaultCause (D.shows disk.old).faults (D.shows disk.new).faults result }
 {
     make_bytes(disk, area, generation, CLOSED, &[])?;
     Ok(LiveArea {
@@ -50,19 +50,19 @@ pub fn make_area_with<D: Disk>(
     generation: u64,
     first: &Frame,
 ) -> Result<LiveArea, Failed>
-    requires settled { IsSettled (D.reads disk.old) (D.may_leave disk.old) }
-    requires room { WhereTold (D.reads disk.old) (λ areas. HasRoom area generation (found_of areas)) }
+    requires settled { IsSettled (D.shows disk.old) }
+    requires room { WhereTold (D.shows disk.old) (λ areas. HasRoom area generation (found_of areas)) }
     requires generation { 1 ≤ generation }
 
-    ensures made { IfOk result (λ live. WhereTold (D.reads disk.new) (Holds live ((17, first.now) ∷ []))) }
-    ensures here { IfOk result (IsMade area generation) }
-    ensures settled { OnOk result (IsSettled (D.reads disk.new) (D.may_leave disk.new)) }
-    ensures any_moment { LeavesOnly D.moment D.left_since disk.old disk.new
-        (ComesFrom (SameBatchesOr ((17, first.now) ∷ [])) (D.reads disk.old)) }
+    ensures made { IfOk result (λ live. WhereTold (D.shows disk.new) (Holds live ((17, first.now) ∷ []))) }
+    ensures here { IfOk result (IsMade area generation (17 + 9 + length first.now)) }
+    ensures settled { OnOk result (IsSettled (D.shows disk.new)) }
+    ensures any_moment { LeavesOnly (D.shows disk.old) (D.shows disk.new)
+        (ComesFrom (TakesOver area (Live area generation ((17, first.now) ∷ []))) (D.shows disk.old)) }
 
-    ensures fits { IfOk result (λ live. IsGatePlace live.gate (D.length_of disk.new live.area)) }
-    ensures length { IfOk result (λ live. D.length_of disk.new live.area ≡ live.gate + 1) }
-    ensures cause { HasFaultCause (D.faults disk.old) (D.faults disk.new) result }
+    ensures fits { IfOk result (λ live. IsGatePlace live.gate ((D.shows disk.new).lengths live.area)) }
+    ensures length { IfOk result (λ live. (D.shows disk.new).lengths live.area ≡ live.gate + 1) }
+    ensures cause { HasFaultCause (D.shows disk.old).faults (D.shows disk.new).faults result }
 {
     let frame = first.as_slice();
     make_bytes(disk, area, generation, OPEN, frame)?;
@@ -75,15 +75,15 @@ pub fn make_area_with<D: Disk>(
 
 // Leaves one closed gate of an area.
 fn make_blank<D: Disk>(disk: &mut D, area: Area) -> Result<(), Failed>
-    requires settled { IsSettled (D.reads disk.old) (D.may_leave disk.old) }
+    requires settled { IsSettled (D.shows disk.old) }
 
-    ensures blank { OnOk result (Leads (OnArea area Blanks) (D.reads disk.old) (D.reads disk.new)) }
-    ensures settled { OnOk result (IsSettled (D.reads disk.new) (D.may_leave disk.new)) }
-    ensures any_moment { LeavesOnly D.moment D.left_since disk.old disk.new
-        (ComesFrom (OnArea area Blanking) (D.reads disk.old)) }
+    ensures blank { OnOk result (Leads (OnArea area Blanks) (D.shows disk.old) (D.shows disk.new)) }
+    ensures settled { OnOk result (IsSettled (D.shows disk.new)) }
+    ensures any_moment { LeavesOnly (D.shows disk.old) (D.shows disk.new)
+        (ComesFrom (OnArea area Blanking) (D.shows disk.old)) }
 
-    ensures length { OnOk result (D.length_of disk.new area ≡ 1) }
-    ensures cause { HasFaultCause (D.faults disk.old) (D.faults disk.new) result }
+    ensures length { OnOk result ((D.shows disk.new).lengths area ≡ 1) }
+    ensures cause { HasFaultCause (D.shows disk.old).faults (D.shows disk.new).faults result }
 {
     shorten(disk, area, 1)?;
     write_synced(disk, area, 0, &[CLOSED])
@@ -97,18 +97,19 @@ fn write_both<D: Disk>(
     first: &[u8],
     second: &[u8],
 ) -> Result<(), Failed>
-    requires settled { IsSettled (D.reads disk.old) (D.may_leave disk.old) }
-    requires at_end { D.length_of disk.old area ≡ end }
+    requires settled { IsSettled (D.shows disk.old) }
+    requires at_end { (D.shows disk.old).lengths area ≡ end }
 
     ensures put { OnOk result (Leads
-        (OnArea area (GrowsBy (first.now ++ second.now))) (D.reads disk.old) (D.reads disk.new)) }
-    ensures settled { OnOk result (IsSettled (D.reads disk.new) (D.may_leave disk.new)) }
-    ensures any_moment { LeavesOnly D.moment D.left_since disk.old disk.new
-        (ComesFrom (OnArea area Grows) (D.reads disk.old)) }
+        (OnArea area (GrowsBy (first.now ++ second.now))) (D.shows disk.old) (D.shows disk.new)) }
+    ensures settled { OnOk result (IsSettled (D.shows disk.new)) }
+    ensures any_moment { LeavesOnly (D.shows disk.old) (D.shows disk.new)
+        (ComesFrom (OnArea area Grows) (D.shows disk.old)) }
 
-    ensures length { OnOk result (D.length_of disk.new area ≡ end + length first.now + length second.now) }
+    ensures length { OnOk result
+        ((D.shows disk.new).lengths area ≡ end + length first.now + length second.now) }
     ensures limit { OnOk result (end + length first.now + length second.now ≤ 2 ^ 63 - 1) }
-    ensures cause { HasFaultCause (D.faults disk.old) (D.faults disk.new) result }
+    ensures cause { HasFaultCause (D.shows disk.old).faults (D.shows disk.new).faults result }
 {
     disk.write_at(area, end, first)?;
     disk.write_at(area, end + first.len() as u64, second)?;
@@ -118,18 +119,18 @@ fn write_both<D: Disk>(
 // Puts the rest of a head behind the closed head gate of an area, and, where there are any, bytes behind that; and
 // syncs.
 fn put_behind<D: Disk>(disk: &mut D, area: Area, head: &[u8], rest: &[u8]) -> Result<(), Failed>
-    requires settled { IsSettled (D.reads disk.old) (D.may_leave disk.old) }
-    requires one_byte { D.length_of disk.old area ≡ 1 }
+    requires settled { IsSettled (D.shows disk.old) }
+    requires one_byte { (D.shows disk.old).lengths area ≡ 1 }
 
     ensures put { OnOk result (Leads
-        (OnArea area (GrowsBy (head.now ++ rest.now))) (D.reads disk.old) (D.reads disk.new)) }
-    ensures settled { OnOk result (IsSettled (D.reads disk.new) (D.may_leave disk.new)) }
-    ensures any_moment { LeavesOnly D.moment D.left_since disk.old disk.new
-        (ComesFrom (OnArea area Grows) (D.reads disk.old)) }
+        (OnArea area (GrowsBy (head.now ++ rest.now))) (D.shows disk.old) (D.shows disk.new)) }
+    ensures settled { OnOk result (IsSettled (D.shows disk.new)) }
+    ensures any_moment { LeavesOnly (D.shows disk.old) (D.shows disk.new)
+        (ComesFrom (OnArea area Grows) (D.shows disk.old)) }
 
-    ensures length { OnOk result (D.length_of disk.new area ≡ 1 + length head.now + length rest.now) }
+    ensures length { OnOk result ((D.shows disk.new).lengths area ≡ 1 + length head.now + length rest.now) }
     ensures limit { OnOk result (1 + length head.now + length rest.now ≤ 2 ^ 63 - 1) }
-    ensures cause { HasFaultCause (D.faults disk.old) (D.faults disk.new) result }
+    ensures cause { HasFaultCause (D.shows disk.old).faults (D.shows disk.new).faults result }
 {
     if rest.is_empty() {
         write_synced(disk, area, 1, head)
@@ -138,10 +139,10 @@ fn put_behind<D: Disk>(disk: &mut D, area: Area, head: &[u8], rest: &[u8]) -> Re
     }
 }
 
-#[tactic(auto, unfolding(crate::specs::Sealed::text_of))]
+#[tactic(auto, unfolding(crate::specs::Sealed::area_text))]
 // What stands behind the head gate, up to the first gate and with it.
 fn head_of(generation: u64, gate: u8) -> [u8; 17]
-    ensures { result ≡ text_of generation gate [] }
+    ensures { result ≡ area_text generation gate [] }
 {
     let g = generation.to_be_bytes();
     [
@@ -158,17 +159,17 @@ fn make_bytes<D: Disk>(
     gate: u8,
     rest: &[u8],
 ) -> Result<(), Failed>
-    requires settled { IsSettled (D.reads disk.old) (D.may_leave disk.old) }
+    requires settled { IsSettled (D.shows disk.old) }
 
     ensures made { OnOk result (Leads
-        (OnArea area (Makes (text_of generation gate rest.now))) (D.reads disk.old) (D.reads disk.new)) }
-    ensures settled { OnOk result (IsSettled (D.reads disk.new) (D.may_leave disk.new)) }
-    ensures any_moment { LeavesOnly D.moment D.left_since disk.old disk.new
-        (ComesFrom (OnArea area (Making (text_of generation gate rest.now))) (D.reads disk.old)) }
+        (OnArea area (Makes (area_text generation gate rest.now))) (D.shows disk.old) (D.shows disk.new)) }
+    ensures settled { OnOk result (IsSettled (D.shows disk.new)) }
+    ensures any_moment { LeavesOnly (D.shows disk.old) (D.shows disk.new)
+        (ComesFrom (OnArea area (Making (area_text generation gate rest.now))) (D.shows disk.old)) }
 
-    ensures length { OnOk result (D.length_of disk.new area ≡ 18 + length rest.now) }
+    ensures length { OnOk result ((D.shows disk.new).lengths area ≡ 18 + length rest.now) }
     ensures limit { OnOk result (18 + length rest.now ≤ 2 ^ 63 - 1) }
-    ensures cause { HasFaultCause (D.faults disk.old) (D.faults disk.new) result }
+    ensures cause { HasFaultCause (D.shows disk.old).faults (D.shows disk.new).faults result }
 {
     make_blank(disk, area)?;
     put_behind(disk, area, &head_of(generation, gate), rest)?;

@@ -16,21 +16,23 @@ const OPEN: u8 = 0xa5;
 /// Seals a batch at the gate of the live area, in four device calls, and gives the area with its next gate. The frame is
 /// on the disk before the gate is opened by one byte.
 pub fn seal<D: Disk>(disk: &mut D, live: LiveArea, frame: &Frame) -> Result<LiveArea, Failed>
-    requires settled { IsSettled (D.reads disk.old) (D.may_leave disk.old) }
-    requires last { D.length_of disk.old live.area ≡ live.gate + 1 }
+    requires settled { IsSettled (D.shows disk.old) }
+    requires last { (D.shows disk.old).lengths live.area ≡ live.gate + 1 }
     requires limit { live.gate + 1 ≤ 2 ^ 63 - 1 }
-    requires rests { WhereTold (D.reads disk.old) (Rests live) }
+    requires rests { WhereTold (D.shows disk.old) (Rests live) }
 
-    ensures sealed { IfOk result (λ next. Leads (AddsOne live frame.now next) (D.reads disk.old) (D.reads disk.new)) }
+    ensures sealed { IfOk result (λ next.
+        Leads (AddsOne live frame.now next) (D.shows disk.old) (D.shows disk.new)) }
     ensures next { IfOk result (IsNext live frame.now) }
-    ensures settled { OnOk result (IsSettled (D.reads disk.new) (D.may_leave disk.new)) }
-    ensures any_moment { LeavesOnly D.moment D.left_since disk.old disk.new
-        (ComesFrom (SealsOne live frame.now) (D.reads disk.old)) }
+    ensures settled { OnOk result (IsSettled (D.shows disk.new)) }
+    ensures any_moment { LeavesOnly (D.shows disk.old) (D.shows disk.new)
+        (ComesFrom (SealsOne live frame.now) (D.shows disk.old)) }
 
-    ensures length { IfOk result (λ next. D.length_of disk.new next.area ≡ next.gate + 1) }
+    ensures length { IfOk result (λ next. (D.shows disk.new).lengths next.area ≡ next.gate + 1) }
     ensures limit { IfOk result (λ next. next.gate + 1 ≤ 2 ^ 63 - 1) }
-    ensures elsewhere { D.length_of disk.new (other_area live.area) ≡ D.length_of disk.old (other_area live.area) }
-    ensures cause { HasFaultCause (D.faults disk.old) (D.faults disk.new) result }
+    ensures elsewhere { (D.shows disk.new).lengths (other_area live.area)
+        ≡ (D.shows disk.old).lengths (other_area live.area) }
+    ensures cause { HasFaultCause (D.shows disk.old).faults (D.shows disk.new).faults result }
 {
     let bytes = frame.as_slice();
     seal_bytes(disk, live.area, live.gate, bytes)?;
@@ -43,21 +45,22 @@ pub fn seal<D: Disk>(disk: &mut D, live: LiveArea, frame: &Frame) -> Result<Live
 
 // Seals a frame at the closed gate at this place, which is the last byte of the area.
 fn seal_bytes<D: Disk>(disk: &mut D, area: Area, place: u64, frame: &[u8]) -> Result<(), Failed>
-    requires settled { IsSettled (D.reads disk.old) (D.may_leave disk.old) }
-    requires last { D.length_of disk.old area ≡ place + 1 }
+    requires settled { IsSettled (D.shows disk.old) }
+    requires last { (D.shows disk.old).lengths area ≡ place + 1 }
     requires limit { place + 1 ≤ 2 ^ 63 - 1 }
-    requires closed { WhereTold (D.reads disk.old) (λ areas. drop place (area_of area areas) ≡ CLOSED ∷ []) }
+    requires closed { WhereTold (D.shows disk.old) (λ areas. drop place (area_of area areas) ≡ CLOSED ∷ []) }
 
     ensures sealed { OnOk result (Leads
-        (OnArea area (Seals place frame.now)) (D.reads disk.old) (D.reads disk.new)) }
-    ensures settled { OnOk result (IsSettled (D.reads disk.new) (D.may_leave disk.new)) }
-    ensures any_moment { LeavesOnly D.moment D.left_since disk.old disk.new
-        (ComesFrom (OnArea area (Sealing place frame.now)) (D.reads disk.old)) }
+        (OnArea area (Seals place frame.now)) (D.shows disk.old) (D.shows disk.new)) }
+    ensures settled { OnOk result (IsSettled (D.shows disk.new)) }
+    ensures any_moment { LeavesOnly (D.shows disk.old) (D.shows disk.new)
+        (ComesFrom (OnArea area (Sealing place frame.now)) (D.shows disk.old)) }
 
-    ensures length { OnOk result (D.length_of disk.new area ≡ place + 1 + length frame.now) }
+    ensures length { OnOk result ((D.shows disk.new).lengths area ≡ place + 1 + length frame.now) }
     ensures limit { OnOk result (place + 1 + length frame.now ≤ 2 ^ 63 - 1) }
-    ensures elsewhere { D.length_of disk.new (other_area area) ≡ D.length_of disk.old (other_area area) }
-    ensures cause { HasFaultCause (D.faults disk.old) (D.faults disk.new) result }
+    ensures elsewhere { (D.shows disk.new).lengths (other_area area)
+        ≡ (D.shows disk.old).lengths (other_area area) }
+    ensures cause { HasFaultCause (D.shows disk.old).faults (D.shows disk.new).faults result }
 {
     write_synced(disk, area, place + 1, frame)?;
     write_synced(disk, area, place, &[OPEN])

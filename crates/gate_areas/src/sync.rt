@@ -1,25 +1,19 @@
 // Both areas synced.
-ghost use Rattle.std.specs.Prelude.{OnOk};
+ghost use Rattle.std.specs.Prelude.{◌≡◌, OnOk};
 ghost use Rattle.edge_traits.specs.Faults.{HasFaultCause};
-ghost use Rattle.disk_trait.specs.Disk.{IsSettled, Pins};
-ghost use Rattle.gate_areas.specs.Untouched.{Untouched};
+ghost use Rattle.disk_trait.specs.Disk.{IsSettled, NoNewImage, SameLengths, LeavesOnly};
 
 use disk_trait::{Area, Disk, Failed};
 
 /// Syncs both areas. After `Ok` a stop leaves just what reads give.
 pub fn sync_both<D: Disk>(disk: &mut D) -> Result<(), Failed>
-    ensures settled { OnOk result (IsSettled (D.reads disk.new) (D.may_leave disk.new)) }
-    ensures untouched { Untouched D.reads D.length_of D.may_leave D.moment D.left_since disk.old disk.new }
-    ensures cause { HasFaultCause (D.faults disk.old) (D.faults disk.new) result }
+    ensures settled { OnOk result (IsSettled (D.shows disk.new)) }
+    ensures any_moment { LeavesOnly (D.shows disk.old) (D.shows disk.new) (D.shows disk.old).may_leave }
+    ensures images { NoNewImage (D.shows disk.old) (D.shows disk.new) }
+    ensures reads { (D.shows disk.new).reads ≡ (D.shows disk.old).reads }
+    ensures lengths { SameLengths (D.shows disk.old) (D.shows disk.new) }
+    ensures cause { HasFaultCause (D.shows disk.old).faults (D.shows disk.new).faults result }
 {
-    sync_area(disk, Area::Zero)?;
-    sync_area(disk, Area::One)
-}
-
-fn sync_area<D: Disk>(disk: &mut D, area: Area) -> Result<(), Failed>
-    ensures pinned { OnOk result (Pins area (D.reads disk.old) (D.may_leave disk.new)) }
-    ensures untouched { Untouched D.reads D.length_of D.may_leave D.moment D.left_since disk.old disk.new }
-    ensures cause { HasFaultCause (D.faults disk.old) (D.faults disk.new) result }
-{
-    disk.sync(area)
+    disk.sync(Area::Zero)?;
+    disk.sync(Area::One)
 }

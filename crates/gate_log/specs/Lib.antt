@@ -1,6 +1,5 @@
 pub use Rattle.disk_trait.specs.Areas
 pub use Rattle.disk_trait.specs.Disk
-pub use Rattle.disk_trait.specs.Moments
 pub use Rattle.edge_traits.specs.Faults
 pub use Rattle.gate_areas.specs.Choice
 pub use Rattle.gate_areas.specs.Found
@@ -11,10 +10,11 @@ pub use Rattle.gate_areas.specs.Rest
 pub use Rattle.gate_areas.specs.Scan
 pub use Rattle.gate_areas.specs.Sealed
 pub use Rattle.gate_areas.specs.Steps
-pub use Rattle.gate_areas.specs.Untouched
 pub mod Causes
-pub mod Claims
+pub mod Content
 pub mod Errors
+pub mod Journal
 pub mod Kept
 pub mod Log
 pub mod Opened
+pub mod Silent

@@ -2,7 +2,7 @@
 ghost use Rattle.std.specs.Prelude.{◌≡◌};
 ghost use Rattle.gate_log.specs.declared.error.LogError.TheVariants.{DiskFault};
 
-use gate_areas::{Area, Failed, ReadError};
+use gate_areas::{Area, CollectError, Failed};
 
 /// Why a log was not opened.
 #[derive(Clone, Copy, Debug, PartialEq, Eq)]
@@ -32,15 +32,15 @@ impl From<Failed> for LogError {
     }
 }
 
-impl From<ReadError> for LogError {
+impl From<CollectError> for LogError {
     ghost use Rattle.gate_log.specs.Errors.{log_error_of};
 
     ghost from_gives = { λ read error. error ≡ log_error_of read };
 
-    fn from(read: ReadError) -> LogError {
+    fn from(read: CollectError) -> LogError {
         match read {
-            ReadError::DiskFault => LogError::DiskFault,
-            ReadError::NoMemory => LogError::NoMemory,
+            CollectError::DiskFault => LogError::DiskFault,
+            CollectError::NoMemory => LogError::NoMemory,
         }
     }
 }

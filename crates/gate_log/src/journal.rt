@@ -1,38 +1,45 @@
-// A layer above a log, at its least: how many batches there are, and which one is in doubt. It is proved from the log's
-// public clauses alone, so it shows that they say enough.
-ghost use Rattle.std.specs.Prelude.{◌≡◌, ◌↔◌, length, None};
+// A layer above a log, at its least: how many batches there are, and how many a stop may leave. It is proved from the
+// log's public clauses alone, so it shows that they say enough: its counter never wraps, it goes over into the other
+// area in place, and it keeps a log in every state.
+ghost use Rattle.std.specs.Prelude.{◌≡◌, ◌+◌, ◌*◌, ◌≤◌, length, true};
 ghost use Rattle.std.specs.Option.{ForSome};
 ghost use Rattle.std.proofs.Props.{props};
-ghost use Rattle.gate_log.specs.Sealed.{BatchList};
-ghost use Rattle.gate_log.specs.Kept.{IsBeforeOrAfter, is_before_or_after_prop};
-ghost use Rattle.gate_log.specs.Log.{BatchesHave, HasBatches, EachImage, last_gate, failed_at};
+ghost use Rattle.disk_trait.specs.Disk.{EachImage};
+ghost use Rattle.gate_log.specs.Found.{batches_in};
+ghost use Rattle.gate_log.specs.Journal.{is_count};
+ghost use Rattle.gate_log.specs.Log.{content_of, disk_of, last_gate};
 
 use crate::{AppendError, Disk, Frame, GateLog, LogError};
 use std::alloc::Global;
 
+// The number of batches, and the other number that a stop may leave after a fault.
 #[derive(Drop)]
 pub struct Journal<D: Disk> {
     log: GateLog<D>,
     number: u64,
-    lost: Option<Frame>,
-    ghost counts: { BatchesHave D.reads log (λ batches. length batches ≡ number) } by { Prim.hlevel props },
-    ghost goes_on: { (lost ≡ None) ↔ (failed_at log ≡ None) } by { Prim.hlevel props },
-    ghost doubt: { ForSome lost (λ payload. (batches : BatchList) → HasBatches D.reads log batches
-        → EachImage D.may_leave log (IsBeforeOrAfter batches (last_gate log, payload))) } by { Prim.hlevel (props, is_before_or_after_prop) },
+    other: u64,
+    ghost counts: { ForSome (content_of D.shows log) (λ batches. length batches ≡ number) } by { Prim.hlevel props },
+    ghost fits: { 17 + 9 * number ≤ last_gate log },
+    ghost images: { EachImage (D.shows (disk_of log))
+        (λ image. is_count number other (batches_in image) ≡ true) } by { Prim.hlevel props },
 }
 
 impl<D: Disk> Journal<D> {
-    ghost use Rattle.std.specs.Prelude.{◌≡◌, ◌⊎◌, ◌+◌, ◌-◌, ◌^◌, ◌<◌, length, IsOkAnd, None, IfOk, OnOk, OnErr};
-    ghost use Rattle.disk_trait.specs.Areas.{Areas};
-    ghost use Rattle.disk_trait.specs.Disk.{WhereTold, LeavesOnly};
-    ghost use Rattle.gate_log.specs.Found.{batches_in};
-    ghost use Rattle.gate_log.specs.Log.{EachImage, disk_of};
+    ghost use Rattle.std.specs.Prelude.{◌≡◌, ◌⊎◌, ◌+◌, ◌-◌, ◌^◌, ◌<◌, ℕ, None, IfOk, IfErr, OnOk, OnErr};
+    ghost use Rattle.disk_trait.specs.declared.area.Area.{Area};
+    ghost use Rattle.disk_trait.specs.Disk.{WhereTold, EachImage, ComesFrom, LeavesOnly};
+    ghost use Rattle.gate_log.specs.Content.{AreaStays};
+    ghost use Rattle.gate_log.specs.Found.{Damaged, found_of, batches_in};
+    ghost use Rattle.gate_log.specs.Journal.{HasCount, is_count};
+    ghost use Rattle.gate_log.specs.Log.{disk_of, live_area, generation_of, failed_at};
 
     pub fn open(alloc: Global, disk: D) -> Result<Journal<D>, (LogError, D)>
-        ensures found { IfOk result (λ journal. WhereTold (D.reads disk) (λ areas.
-            IsOkAnd (batches_in areas) (λ batches. length batches ≡ journal.number))) }
-        ensures sealed { IfOk result (λ journal. EachImage D.may_leave journal.log (λ image.
-            IsOkAnd (batches_in image) (λ batches. length batches ≡ journal.number))) }
+        ensures found { IfOk result (λ journal. WhereTold (D.shows disk) (HasCount journal.number)) }
+        ensures sealed { IfOk result
+            (λ journal. EachImage (D.shows (disk_of journal.log)) (HasCount journal.number)) }
+        // Where it is damaged, each image is, at the same place.
+        ensures damaged { IfErr result (λ err. (area : Area) (place : ℕ) → err.0 ≡ LogError.Damaged area place
+            → EachImage (D.shows err.1) (λ image. found_of image ≡ Damaged area place)) }
     {
         match GateLog::load(alloc, disk) {
             Ok(opened) => {
@@ -41,31 +48,57 @@ impl<D: Disk> Journal<D> {
                 Ok(Journal {
                     log,
                     number,
-                    lost: None,
+                    other: number,
                 })
             }
             Err(error) => Err(error),
         }
     }
 
-    pub fn commit(&mut self, frame: Frame) -> Result<(), AppendError>
-        requires { self.old.number < 2 ^ 64 - 1 }
-
+    pub fn commit(&mut self, frame: &Frame) -> Result<(), AppendError>
         ensures committed { OnOk result (self.new.number ≡ self.old.number + 1) }
-        ensures sealed { OnOk result (EachImage D.may_leave self.new.log (λ image.
-            IsOkAnd (batches_in image) (λ batches. length batches ≡ self.new.number))) }
-        ensures any_moment { self.old.lost ≡ None → LeavesOnly D.moment D.left_since
-            (disk_of self.old.log) (disk_of self.new.log) (λ image. IsOkAnd (batches_in image) (λ batches.
-            (length batches ≡ self.old.number) ⊎ (length batches ≡ self.old.number + 1))) }
+        ensures sealed { OnOk result (EachImage (D.shows (disk_of self.new.log)) (HasCount self.new.number)) }
+        ensures any_moment { failed_at self.old.log ≡ None
+            → LeavesOnly (D.shows (disk_of self.old.log)) (D.shows (disk_of self.new.log))
+            (λ image. HasCount self.old.number image ⊎ HasCount (self.old.number + 1) image) }
         ensures failed { OnErr result (self.new.number ≡ self.old.number) }
     {
-        match self.log.append(&frame) {
+        let _ = self.log.failed();
+        match self.log.append(frame) {
             Ok(()) => {
                 self.number += 1;
+                self.other = self.number;
                 Ok(())
             }
             Err(AppendError::DiskFault) => {
-                self.lost = Some(frame);
+                self.other = self.number + 1;
+                Err(AppendError::DiskFault)
+            }
+            Err(AppendError::Faulted { seen }) => Err(AppendError::Faulted { seen }),
+        }
+    }
+
+    // The area from before stays as it was.
+    pub fn compact(&mut self, first: &Frame) -> Result<(), AppendError>
+        requires { generation_of self.old.log < 2 ^ 64 - 1 }
+        ensures compacted { OnOk result (self.new.number ≡ 1) }
+        ensures sealed { OnOk result (EachImage (D.shows (disk_of self.new.log)) (HasCount self.new.number)) }
+        ensures any_moment { failed_at self.old.log ≡ None
+            → LeavesOnly (D.shows (disk_of self.old.log)) (D.shows (disk_of self.new.log))
+            (λ image. HasCount self.old.number image ⊎ HasCount 1 image) }
+        ensures stays { failed_at self.old.log ≡ None
+            → LeavesOnly (D.shows (disk_of self.old.log)) (D.shows (disk_of self.new.log))
+            (ComesFrom (AreaStays (live_area self.old.log)) (D.shows (disk_of self.old.log))) }
+        ensures failed { OnErr result (self.new.number ≡ self.old.number) }
+    {
+        match self.log.switch(first) {
+            Ok(()) => {
+                self.number = 1;
+                self.other = 1;
+                Ok(())
+            }
+            Err(AppendError::DiskFault) => {
+                self.other = 1;
                 Err(AppendError::DiskFault)
             }
             Err(AppendError::Faulted { seen }) => Err(AppendError::Faulted { seen }),
@@ -73,10 +106,8 @@ impl<D: Disk> Journal<D> {
     }
 
     pub fn close(self) -> D
-        ensures sealed { self.lost ≡ None → (image : Areas) → D.may_leave result image
-            → IsOkAnd (batches_in image) (λ batches. length batches ≡ self.number) }
-        ensures in_doubt { (image : Areas) → D.may_leave result image → IsOkAnd (batches_in image) (λ batches.
-            (length batches ≡ self.number) ⊎ (length batches ≡ self.number + 1)) }
+        ensures left { EachImage (D.shows result)
+            (λ image. is_count self.number self.other (batches_in image) ≡ true) }
     {
         self.log.into_disk()
     }

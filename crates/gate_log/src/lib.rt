@@ -13,4 +13,6 @@ pub use log::GateLog;
 #[cfg(test)]
 mod journal;
 #[cfg(test)]
+mod silent;
+#[cfg(test)]
 mod tests;

@@ -1,9 +1,10 @@
 // What no clause says: that calls succeed with ample memory, and that the definitions mean what the format says.
-// The helpers have no clauses, so that a test doesn't carry what each call ensures.
+// A scenario is a list of steps, each of which writes its answer into a text. The helpers have no clauses, so that a
+// test doesn't carry what each call ensures.
 use super::*;
 use disk_trait::{DiskPlan, Image, MemoryDisk};
 use std::alloc::Global;
-use std::process::Abort;
+use std::fmt::Write;
 use std::test::Fail;
 
 const IMAGES: [Image; 4] = [
@@ -25,9 +26,31 @@ const WORKED: [u8; 124] = [
     0,
 ];
 
+const ONE: &[u8] = b"one";
+
+const TWO: &[u8] = b"second";
+
+#[derive(Clone, Copy)]
+enum Step {
+    Put(Area, &'static [u8]),
+    PutTorn,
+    Load,
+    Append(&'static [u8]),
+    Switch(&'static [u8]),
+    Batches,
+    Close,
+    Restart,
+    Compare,
+}
+
+#[derive(Drop)]
+enum State {
+    Disk(MemoryDisk),
+    Log(GateLog<MemoryDisk>),
+}
+
 fn disk_with(
     alloc: Global,
-    calls: u64,
     fails: Option<u64>,
     stop_after: Option<u64>,
     image: Image,
@@ -41,118 +64,464 @@ fn disk_with(
         stop_after,
         image,
     };
-    Ok(MemoryDisk::with_room(alloc, 2_000_000, calls, plan)?)
+    Ok(MemoryDisk::with_room(alloc, 2_000_000, 100_000, plan)?)
 }
 
-// The log that a disk holds, and how many batches were found; or how it failed.
-fn loaded(
+// The places and lengths of batches.
+fn tell(found: &Batches, said: &mut String) {
+    for k in 0..found.len() {
+        if let Some(batch) = found.at(k) {
+            let _ = write!(said, " {}+{}", batch.place, batch.payload.len());
+        }
+    }
+}
+
+// The generation and the batches, or the error.
+fn load(alloc: Global, disk: MemoryDisk, said: &mut String) -> State {
+    match GateLog::load(alloc, disk) {
+        Ok(opened) => {
+            let (log, found) = opened;
+            let _ = write!(said, " {}:", log.generation());
+            tell(&found, said);
+            State::Log(log)
+        }
+        Err(error) => {
+            let (error, disk) = error;
+            tell_error(error, said);
+            State::Disk(disk)
+        }
+    }
+}
+
+fn tell_error(error: LogError, said: &mut String) {
+    let _ = match error {
+        LogError::Damaged { area, place } => write!(said, " {area:?} {place}"),
+        LogError::DiskFault => write!(said, " fault"),
+        LogError::NoMemory => write!(said, " memory"),
+    };
+}
+
+fn tell_append(answer: Result<(), AppendError>, said: &mut String) {
+    let _ = match answer {
+        Ok(()) => write!(said, " ok"),
+        Err(AppendError::DiskFault) => write!(said, " fault"),
+        Err(AppendError::Faulted { seen }) => write!(said, " refused {seen}"),
+    };
+}
+
+fn append(alloc: Global, log: &mut GateLog<MemoryDisk>, bytes: &[u8], said: &mut String) {
+    if let Ok(frame) = Frame::new(alloc, bytes) {
+        tell_append(log.append(&frame), said);
+    }
+}
+
+fn switch(alloc: Global, log: &mut GateLog<MemoryDisk>, bytes: &[u8], said: &mut String) {
+    if let Ok(frame) = Frame::new(alloc, bytes)
+        && log.generation() < u64::MAX
+    {
+        tell_append(log.switch(&frame), said);
+    }
+}
+
+fn batches(alloc: Global, log: &mut GateLog<MemoryDisk>, said: &mut String) {
+    if let Ok(found) = log.batches(alloc) {
+        tell(&found, said);
+    }
+}
+
+fn put(disk: &mut MemoryDisk, area: Area, bytes: &[u8]) {
+    let _ = disk.write_at(area, 0, bytes);
+    let _ = disk.sync(area);
+}
+
+// The worked area, with another last gate, which isn't open, and bytes behind it.
+fn put_torn(disk: &mut MemoryDisk) {
+    let mut bytes = [9; 127];
+    bytes[..124].copy_from_slice(&WORKED);
+    bytes[123] = 0x77;
+    put(disk, Area::Zero, &bytes);
+}
+
+fn restart(disk: &mut MemoryDisk, said: &mut String) {
+    let _ = match disk.restart() {
+        Ok(()) => write!(said, " restart"),
+        Err(_) => write!(said, " no restart"),
+    };
+}
+
+fn on_disk(alloc: Global, disk: MemoryDisk, step: Step, said: &mut String) -> State {
+    let mut disk = disk;
+    match step {
+        Step::Load => return load(alloc, disk, said),
+        Step::Put(area, bytes) => put(&mut disk, area, bytes),
+        Step::PutTorn => put_torn(&mut disk),
+        Step::Restart => restart(&mut disk, said),
+        Step::Compare => {
+            let _ = write!(said, " {}", disk.bytes(Area::Zero) == WORKED.as_slice());
+        }
+        _ => {}
+    }
+    State::Disk(disk)
+}
+
+fn on_log(alloc: Global, log: GateLog<MemoryDisk>, step: Step, said: &mut String) -> State {
+    let mut log = log;
+    match step {
+        Step::Append(bytes) => append(alloc, &mut log, bytes, said),
+        Step::Switch(bytes) => switch(alloc, &mut log, bytes, said),
+        Step::Batches => batches(alloc, &mut log, said),
+        Step::Close => return State::Disk(log.into_disk()),
+        _ => {}
+    }
+    State::Log(log)
+}
+
+// Goes through the steps. One that the state doesn't take does nothing.
+fn go_through(alloc: Global, state: State, steps: &[Step], said: &mut String) {
+    let mut state = state;
+    for step in steps {
+        state = match state {
+            State::Disk(disk) => on_disk(alloc, disk, *step, said),
+            State::Log(log) => on_log(alloc, log, *step, said),
+        };
+    }
+}
+
+// Writes an answer with how often it came in a row.
+fn tell_run(said: &mut String, answer: &str, times: u64) {
+    if times > 0 {
+        let _ = write!(said, ",{answer} x{times}");
+    }
+}
+
+// What is to happen behind a number of calls: a stop, which holds until a restart, or one call that fails; or a stop
+// while a log is made.
+#[derive(Clone, Copy)]
+enum Trouble {
+    Stop,
+    Fail,
+    StopCreate,
+    StopCreateWith,
+}
+
+fn plan_with(alloc: Global, stop_after: u64, image: Image) -> DiskPlan {
+    DiskPlan {
+        fail_at: Vec::new(alloc),
+        stop_after: Some(stop_after),
+        image,
+    }
+}
+
+fn created(alloc: Global, k: u64, image: Image) -> Result<Made, Fail> {
+    let disk = MemoryDisk::with_room(alloc, 1000, 1000, plan_with(alloc, k, image))?;
+    Ok(GateLog::create(disk, Area::One, 7))
+}
+
+fn created_with(alloc: Global, k: u64, image: Image) -> Result<Made, Fail> {
+    let first = Frame::new(alloc, ONE)?;
+    let disk = MemoryDisk::with_room(alloc, 1000, 1000, plan_with(alloc, k, image))?;
+    Ok(GateLog::create_with(disk, Area::One, 7, &first))
+}
+
+type Made = Result<GateLog<MemoryDisk>, (LogError, MemoryDisk)>;
+
+fn made(made: Made, said: &mut String) -> State {
+    match made {
+        Ok(log) => {
+            let _ = write!(said, " ok");
+            State::Log(log)
+        }
+        Err(error) => {
+            tell_error(error.0, said);
+            State::Disk(error.1)
+        }
+    }
+}
+
+fn troubled(
     alloc: Global,
-    disk: MemoryDisk,
-) -> Result<(GateLog<MemoryDisk>, Batches), (LogError, MemoryDisk)> {
-    GateLog::load(alloc, disk)
+    trouble: Trouble,
+    k: u64,
+    image: Image,
+    said: &mut String,
+) -> Result<State, Fail> {
+    Ok(match trouble {
+        Trouble::Stop => State::Disk(disk_with(alloc, None, Some(k), image)?),
+        Trouble::Fail => State::Disk(disk_with(alloc, k.checked_add(1), None, image)?),
+        Trouble::StopCreate => made(created(alloc, k, image)?, said),
+        Trouble::StopCreateWith => made(created_with(alloc, k, image)?, said),
+    })
 }
 
-fn appended(log: &mut GateLog<MemoryDisk>, frame: &Frame) -> Result<(), AppendError> {
-    log.append(frame)
-}
-
-fn disk_in(log: GateLog<MemoryDisk>) -> MemoryDisk {
-    log.into_disk()
-}
-
-fn restarted(disk: &mut MemoryDisk) -> bool {
-    disk.restart().is_ok()
-}
-
-// Whether these are the batches, by place and payload.
-fn are(found: &Batches, wanted: &[(u64, &[u8])]) -> bool {
-    let mut same = found.len() == wanted.len();
-    for (k, (place, payload)) in wanted.iter().enumerate() {
-        match found.at(k) {
-            Some(batch) => {
-                if batch.place != *place || batch.payload.as_slice() != *payload {
-                    same = false;
-                }
-            }
-            None => same = false,
+// The steps under an image, with trouble behind each number of calls from the first to the last.
+fn swept(
+    alloc: Global,
+    steps: &[Step],
+    trouble: Trouble,
+    calls: (u64, u64),
+    image: Image,
+    said: &mut String,
+) -> Result<(), Fail> {
+    let mut last = String::new(alloc);
+    let mut times = 0u64;
+    for k in calls.0..=calls.1 {
+        let mut answer = String::new(alloc);
+        let state = troubled(alloc, trouble, k, image, &mut answer)?;
+        go_through(alloc, state, steps, &mut answer);
+        if answer.as_str() != last.as_str() {
+            tell_run(said, &last, times);
+            last = answer;
+            times = 0;
         }
+        times = times.wrapping_add(1);
     }
-    same
-}
-
-const ONE: &[u8] = b"one";
-
-const TWO: &[u8] = b"second";
-
-#[test]
-fn a_stop_within_an_append_leaves_it_whole_or_not_at_all(rt: HostRuntime) -> Result<(), Fail> {
-    let alloc = rt.alloc();
-    for image in &IMAGES {
-        // The calls of the load and of the first append come before.
-        let disk = disk_with(alloc, 1000, None, None, *image)?;
-        let (mut log, _) = loaded(alloc, disk).ok().ok_or("a new log")?;
-        let first = Frame::new(alloc, ONE)?;
-        let second = Frame::new(alloc, TWO)?;
-        appended(&mut log, &first).ok().ok_or("a first batch")?;
-        let before = disk_in(log).calls_made();
-        for k in 0..=4u64 {
-            let disk = disk_with(alloc, 1000, None, before.checked_add(k), *image)?;
-            let (mut log, _) = loaded(alloc, disk).ok().ok_or("a new log")?;
-            appended(&mut log, &first).ok().ok_or("a first batch")?;
-            assert_eq!(rt;
-                appended(&mut log, &second).is_ok(),
-                k == 4,
-                "{image:?} after {k}"
-            );
-            if k < 4 {
-                assert_eq!(rt;
-                    appended(&mut log, &second),
-                    Err(AppendError::Faulted { seen: 1 }),
-                    "{image:?} after {k}"
-                );
-            }
-            let mut disk = disk_in(log);
-            assert!(rt; restarted(&mut disk));
-            let (_, found) = loaded(alloc, disk).ok().ok_or("the log again")?;
-            let both = k == 4 || (k >= 2 && matches!(image, Image::Kept | Image::Byte(0xa5)));
-            let wanted: &[(u64, &[u8])] = &[(17, ONE), (29, TWO)];
-            assert!(rt;
-                are(&found, if both { wanted } else { &wanted[..1] }),
-                "{image:?} after {k}"
-            );
-        }
-    }
+    tell_run(said, &last, times);
     Ok(())
 }
 
-// A front of the worked area, with some bytes changed, and bytes behind it.
-#[derive(Drop)]
-struct Part {
-    len: usize,
-    changes: &'static [(usize, u8)],
-    behind: &'static [u8],
-}
-
-// Two areas, and what is found of them: places and lengths, or the first fault.
-#[derive(Drop)]
-struct Row {
-    zero: Part,
-    one: Part,
-    wanted: Result<&'static [(u64, u64)], (Area, u64)>,
-}
-
-fn bytes_of(alloc: Global, part: &Part) -> Result<Vec<u8>, Fail> {
-    let mut bytes = Vec::from_slice(alloc, &WORKED[..part.len.min(124)])?;
-    for (place, byte) in part.changes {
-        if let Some(at) = bytes.get_mut(*place) {
-            *at = *byte;
-        }
+// A line for each image.
+fn stopped(
+    alloc: Global,
+    steps: &[Step],
+    trouble: Trouble,
+    calls: (u64, u64),
+) -> Result<String, Fail> {
+    let mut said = String::new(alloc);
+    for image in &IMAGES {
+        let _ = write!(said, "{image:?}");
+        swept(alloc, steps, trouble, calls, *image, &mut said)?;
+        let _ = writeln!(said);
     }
-    bytes.extend_from_slice(part.behind)?;
+    Ok(said)
+}
+
+const APPENDED: &str =
+    "Kept, 1: ok fault refused 1 restart 1: 17+3 x2, 1: ok fault refused 1 restart 1: 17+3 29+6 x2, 1: ok ok fault restart 1: 17+3 29+6 x1
+Dropped, 1: ok fault refused 1 restart 1: 17+3 x4, 1: ok ok fault restart 1: 17+3 29+6 x1
+Byte(165), 1: ok fault refused 1 restart 1: 17+3 x2, 1: ok fault refused 1 restart 1: 17+3 29+6 x2, 1: ok ok fault restart 1: 17+3 29+6 x1
+Byte(0), 1: ok fault refused 1 restart 1: 17+3 x4, 1: ok ok fault restart 1: 17+3 29+6 x1
+";
+
+// The calls of the load and of the first append come before. What was stopped refuses the next.
+#[test]
+fn a_stop_within_an_append_leaves_it_whole_or_not_at_all(rt: HostRuntime) -> Result<(), Fail> {
+    let steps = [
+        Step::Load,
+        Step::Append(ONE),
+        Step::Append(TWO),
+        Step::Append(&[]),
+        Step::Close,
+        Step::Restart,
+        Step::Load,
+    ];
+    let said = stopped(rt.alloc(), &steps, Trouble::Stop, (15, 19))?;
+    assert_eq!(rt; said.as_str(), APPENDED);
+    Ok(())
+}
+
+const SWITCHED: &str =
+    "Kept, 1: 17+43 69+45 fault restart 1: 17+43 69+45 x6, 1: 17+43 69+45 fault restart 2: 17+3 x2, 1: 17+43 69+45 ok restart 2: 17+3 x1
+Dropped, 1: 17+43 69+45 fault restart 1: 17+43 69+45 x8, 1: 17+43 69+45 ok restart 2: 17+3 x1
+Byte(165), 1: 17+43 69+45 fault restart 1: 17+43 69+45 x6, 1: 17+43 69+45 fault restart 2: 17+3 x2, 1: 17+43 69+45 ok restart 2: 17+3 x1
+Byte(0), 1: 17+43 69+45 fault restart 1: 17+43 69+45 x8, 1: 17+43 69+45 ok restart 2: 17+3 x1
+";
+
+// Over the worked area: a length, 00 at 0, the rest in two writes, and a5 at 0, with a sync after each of the three.
+// What was not synced is in doubt.
+#[test]
+fn a_switch_takes_over_or_does_not(rt: HostRuntime) -> Result<(), Fail> {
+    let steps = [
+        Step::Put(Area::Zero, &WORKED),
+        Step::Load,
+        Step::Switch(ONE),
+        Step::Close,
+        Step::Restart,
+        Step::Load,
+    ];
+    let said = stopped(rt.alloc(), &steps, Trouble::Stop, (17, 25))?;
+    assert_eq!(rt; said.as_str(), SWITCHED);
+    Ok(())
+}
+
+const SWITCHED_BACK: &str =
+    "Kept, 1: ok ok ok fault restart 2: 17+6 32+3 x8, 1: ok ok ok fault restart 3: 17+6 x2, 1: ok ok ok ok restart 3: 17+6 x1
+Dropped, 1: ok ok ok fault restart 2: 17+6 32+3 x10, 1: ok ok ok ok restart 3: 17+6 x1
+Byte(165), 1: ok ok ok fault restart 2: 17+6 32+3 x8, 1: ok ok ok fault restart 3: 17+6 x2, 1: ok ok ok ok restart 3: 17+6 x1
+Byte(0), 1: ok ok ok fault restart 2: 17+6 32+3 x10, 1: ok ok ok ok restart 3: 17+6 x1
+";
+
+// The new log is made over the old open area of a lesser generation, which is cut first; and a batch is appended in
+// area 1.
+#[test]
+fn a_switch_goes_over_an_old_open_area(rt: HostRuntime) -> Result<(), Fail> {
+    let steps = [
+        Step::Load,
+        Step::Append(ONE),
+        Step::Switch(TWO),
+        Step::Append(ONE),
+        Step::Switch(TWO),
+        Step::Close,
+        Step::Restart,
+        Step::Load,
+    ];
+    let said = stopped(rt.alloc(), &steps, Trouble::Stop, (27, 37))?;
+    assert_eq!(rt; said.as_str(), SWITCHED_BACK);
+    Ok(())
+}
+
+const LOADED_AFTER_A_FAULT: &str =
+    "Kept, 1: 17+43 69+45 fault 1: 17+43 69+45 x6, 1: 17+43 69+45 fault 2: 17+3 x2
+Dropped, 1: 17+43 69+45 fault 1: 17+43 69+45 x6, 1: 17+43 69+45 fault 2: 17+3 x2
+Byte(165), 1: 17+43 69+45 fault 1: 17+43 69+45 x6, 1: 17+43 69+45 fault 2: 17+3 x2
+Byte(0), 1: 17+43 69+45 fault 1: 17+43 69+45 x6, 1: 17+43 69+45 fault 2: 17+3 x2
+";
+
+// A load goes by what reads give, also where no restart came before.
+#[test]
+fn a_load_follows_a_fault(rt: HostRuntime) -> Result<(), Fail> {
+    let steps = [
+        Step::Put(Area::Zero, &WORKED),
+        Step::Load,
+        Step::Switch(ONE),
+        Step::Close,
+        Step::Load,
+    ];
+    let said = stopped(rt.alloc(), &steps, Trouble::Fail, (17, 24))?;
+    assert_eq!(rt; said.as_str(), LOADED_AFTER_A_FAULT);
+    Ok(())
+}
+
+const REPAIRED: &str =
+    "Kept, fault restart 1: 17+43 69+45 true x20, 1: 17+43 69+45 restart 1: 17+43 69+45 true x1
+Dropped, fault restart 1: 17+43 69+45 true x20, 1: 17+43 69+45 restart 1: 17+43 69+45 true x1
+Byte(165), fault restart 1: 17+43 69+45 true x20, 1: 17+43 69+45 restart 1: 17+43 69+45 true x1
+Byte(0), fault restart 1: 17+43 69+45 true x20, 1: 17+43 69+45 restart 1: 17+43 69+45 true x1
+";
+
+// The last gate of the area is no closed gate as it is written, and bytes stand behind it. Two calls put it there.
+#[test]
+fn a_load_repairs_the_end_whatever_stops_it(rt: HostRuntime) -> Result<(), Fail> {
+    let steps = [
+        Step::PutTorn,
+        Step::Load,
+        Step::Close,
+        Step::Restart,
+        Step::Load,
+        Step::Close,
+        Step::Compare,
+    ];
+    let said = stopped(rt.alloc(), &steps, Trouble::Stop, (2, 22))?;
+    assert_eq!(rt; said.as_str(), REPAIRED);
+    Ok(())
+}
+
+const REPAIRED_AFTER_A_FAULT: &str = "Kept, fault 1: 17+43 69+45 true x20
+Dropped, fault 1: 17+43 69+45 true x20
+Byte(165), fault 1: 17+43 69+45 true x20
+Byte(0), fault 1: 17+43 69+45 true x20
+";
+
+#[test]
+fn a_load_repairs_the_end_after_a_fault(rt: HostRuntime) -> Result<(), Fail> {
+    let steps = [
+        Step::PutTorn,
+        Step::Load,
+        Step::Load,
+        Step::Close,
+        Step::Compare,
+    ];
+    let said = stopped(rt.alloc(), &steps, Trouble::Fail, (2, 21))?;
+    assert_eq!(rt; said.as_str(), REPAIRED_AFTER_A_FAULT);
+    Ok(())
+}
+
+const CREATED: &str = "Kept, fault restart 1: x5, fault restart 7: x2, ok restart 7: x1
+Dropped, fault restart 1: x7, ok restart 7: x1
+Byte(165), fault restart 1: x5, fault restart 7: x2, ok restart 7: x1
+Byte(0), fault restart 1: x7, ok restart 7: x1
+";
+
+// A length, and three writes with a sync each. A write that fails may still reach the disk.
+#[test]
+fn a_new_log_is_there_or_not(rt: HostRuntime) -> Result<(), Fail> {
+    let steps = [Step::Close, Step::Restart, Step::Load];
+    let said = stopped(rt.alloc(), &steps, Trouble::StopCreate, (0, 7))?;
+    assert_eq!(rt; said.as_str(), CREATED);
+    Ok(())
+}
+
+const CREATED_WITH: &str =
+    "Kept, fault restart 1: x6, fault restart 7: 17+3 x2, ok restart 7: 17+3 x1
+Dropped, fault restart 1: x8, ok restart 7: 17+3 x1
+Byte(165), fault restart 1: x6, fault restart 7: 17+3 x2, ok restart 7: 17+3 x1
+Byte(0), fault restart 1: x8, ok restart 7: 17+3 x1
+";
+
+#[test]
+fn a_new_log_with_a_batch_is_there_or_not(rt: HostRuntime) -> Result<(), Fail> {
+    let steps = [Step::Close, Step::Restart, Step::Load];
+    let said = stopped(rt.alloc(), &steps, Trouble::StopCreateWith, (0, 8))?;
+    assert_eq!(rt; said.as_str(), CREATED_WITH);
+    Ok(())
+}
+
+#[test]
+fn the_batches_of_a_log_are_read_again(rt: HostRuntime) -> Result<(), Fail> {
+    let mut said = String::new(rt.alloc());
+    let disk = disk_with(rt.alloc(), None, None, Image::Kept)?;
+    let steps = [
+        Step::Load,
+        Step::Append(ONE),
+        Step::Append(&[]),
+        Step::Append(TWO),
+        Step::Batches,
+    ];
+    go_through(rt.alloc(), State::Disk(disk), &steps, &mut said);
+    assert_eq!(rt; said.as_str(), " 1: ok ok ok 17+3 29+0 38+6");
+    Ok(())
+}
+
+// A front of the worked area of so many bytes, with this byte at a place, and so many bytes more behind it.
+type Part = (usize, usize, u8, usize);
+
+// Two areas, and what is found of them.
+const ROWS: [(Part, Part, &str); 22] = [
+    ((0, 0, 0xa5, 0), (0, 0, 0xa5, 0), " 1:"),
+    ((1, 0, 0xa5, 0), (0, 0, 0xa5, 0), " 1:"),
+    ((124, 0, 0xa5, 0), (0, 0, 0xa5, 0), " 1: 17+43 69+45"),
+    ((0, 0, 0xa5, 0), (124, 0, 0xa5, 0), " 1: 17+43 69+45"),
+    ((18, 0, 0xa5, 0), (0, 0, 0xa5, 0), " 1:"),
+    ((124, 1, 0x4a, 0), (0, 0, 0xa5, 0), " Zero 1"),
+    ((8, 0, 0xa5, 0), (0, 0, 0xa5, 0), " Zero 1"),
+    ((16, 0, 0xa5, 0), (0, 0, 0xa5, 0), " Zero 9"),
+    ((17, 0, 0xa5, 0), (0, 0, 0xa5, 0), " Zero 17"),
+    ((60, 0, 0xa5, 0), (0, 0, 0xa5, 0), " Zero 18"),
+    ((69, 0, 0xa5, 0), (0, 0, 0xa5, 0), " Zero 18"),
+    ((70, 0, 0xa5, 0), (0, 0, 0xa5, 0), " 1: 17+43"),
+    ((75, 0, 0xa5, 0), (0, 0, 0xa5, 0), " Zero 70"),
+    ((124, 16, 0, 0), (0, 0, 0xa5, 0), " Zero 9"),
+    ((124, 18, 0xff, 0), (0, 0, 0xa5, 0), " Zero 18"),
+    ((124, 69, 0xa4, 0), (0, 0, 0xa5, 0), " 1: 17+43"),
+    ((124, 0, 0, 0), (0, 0, 0xa5, 0), " 1:"),
+    ((124, 0, 0xa5, 0), (124, 0, 0xa5, 0), " One 9"),
+    ((18, 0, 0xa5, 0), (124, 16, 2, 0), " 2: 17+43 69+45"),
+    ((124, 15, 1, 3), (70, 0, 0xa5, 0), " 257: 17+43 69+45"),
+    ((124, 0, 0xa5, 0), (17, 0, 0xa5, 0), " One 17"),
+    ((17, 0, 0xa5, 0), (8, 0, 0xa5, 0), " Zero 17"),
+];
+
+fn part_bytes(alloc: Global, part: Part) -> Result<Vec<u8>, Fail> {
+    let mut bytes = Vec::from_slice(alloc, &WORKED[..part.0.min(124)])?;
+    if let Some(at) = bytes.get_mut(part.1) {
+        *at = part.2;
+    }
+    for _ in 0..part.3 {
+        bytes.push(9)?;
+    }
     Ok(bytes)
 }
 
-fn number_at(bytes: &[u8], at: usize) -> Option<u64> {
+fn long_at(bytes: &[u8], at: usize) -> Option<u64> {
     if bytes.len() < 8 || at > bytes.len() - 8 {
         return None;
     }
@@ -175,7 +544,7 @@ fn plainly(alloc: Global, bytes: &[u8]) -> Result<Plain, Fail> {
     if bytes.len() < 9 || &bytes[1..9] != b"IDBLOG01".as_slice() {
         return Ok(Plain::Fault(1));
     }
-    let generation = match number_at(bytes, 9) {
+    let generation = match long_at(bytes, 9) {
         Some(number) if number > 0 => number,
         _ => return Ok(Plain::Fault(9)),
     };
@@ -188,7 +557,7 @@ fn plainly(alloc: Global, bytes: &[u8]) -> Result<Plain, Fail> {
         if place + 1 == bytes.len() || bytes[place] != 0xa5 {
             break;
         }
-        let length = number_at(bytes, place + 1).unwrap_or(u64::MAX);
+        let length = long_at(bytes, place + 1).unwrap_or(u64::MAX);
         let left = (bytes.len() - place) as u64;
         if left < 10 || length > left - 10 {
             return Ok(Plain::Fault(place as u64 + 1));
@@ -199,593 +568,108 @@ fn plainly(alloc: Global, bytes: &[u8]) -> Result<Plain, Fail> {
     Ok(Plain::Open(generation, batches))
 }
 
-fn plainly_found(
-    alloc: Global,
-    zero: &[u8],
-    one: &[u8],
-) -> Result<Result<Vec<(u64, u64)>, (Area, u64)>, Fail> {
+// What two areas stand for, by that program.
+fn tell_plainly(alloc: Global, zero: &[u8], one: &[u8], said: &mut String) -> Result<(), Fail> {
     let zero = plainly(alloc, zero)?;
     let one = plainly(alloc, one)?;
-    Ok(match zero {
-        Plain::Fault(place) => Err((Area::Zero, place)),
+    match zero {
+        Plain::Fault(place) => write!(said, " Zero {place}")?,
         Plain::Blank => match one {
-            Plain::Fault(place) => Err((Area::One, place)),
-            Plain::Blank => Ok(Vec::new(alloc)),
-            Plain::Open(_, batches) => Ok(batches),
+            Plain::Fault(place) => write!(said, " One {place}")?,
+            Plain::Blank => write!(said, " 1:")?,
+            Plain::Open(h, others) => tell_places(h, &others, said)?,
         },
         Plain::Open(g, batches) => match one {
-            Plain::Fault(place) => Err((Area::One, place)),
-            Plain::Blank => Ok(batches),
-            Plain::Open(h, others) => {
-                if g == h {
-                    Err((Area::One, 9))
-                } else if h < g {
-                    Ok(batches)
-                } else {
-                    Ok(others)
-                }
-            }
+            Plain::Fault(place) => write!(said, " One {place}")?,
+            Plain::Blank => tell_places(g, &batches, said)?,
+            Plain::Open(h, others) => tell_greater(g, &batches, h, &others, said)?,
         },
-    })
+    }
+    Ok(())
 }
 
-fn written(disk: &mut MemoryDisk, area: Area, bytes: &[u8]) -> bool {
-    disk.write_at(area, 0, bytes).is_ok() && disk.sync(area).is_ok()
-}
-
-// The places and lengths that a load finds, or the fault; none for another answer.
-fn load_finds(
-    alloc: Global,
-    disk: MemoryDisk,
-) -> Result<Option<Result<Vec<(u64, u64)>, (Area, u64)>>, Fail> {
-    match loaded(alloc, disk) {
-        Ok((_, found)) => {
-            let mut places = Vec::new(alloc);
-            for k in 0..found.len() {
-                if let Some(batch) = found.at(k) {
-                    places.push((batch.place, batch.payload.len() as u64))?;
-                }
-            }
-            Ok(Some(Ok(places)))
-        }
-        Err((LogError::Damaged { area, place }, _)) => Ok(Some(Err((area, place)))),
-        Err(_) => Ok(None),
+fn tell_greater(
+    g: u64,
+    batches: &[(u64, u64)],
+    h: u64,
+    others: &[(u64, u64)],
+    said: &mut String,
+) -> Result<(), Fail> {
+    if g == h {
+        write!(said, " One 9")?;
+        Ok(())
+    } else if h < g {
+        tell_places(g, batches, said)
+    } else {
+        tell_places(h, others, said)
     }
 }
 
-const BOTH: &[(u64, u64)] = &[(17, 43), (69, 45)];
+fn tell_places(generation: u64, batches: &[(u64, u64)], said: &mut String) -> Result<(), Fail> {
+    write!(said, " {generation}:")?;
+    for batch in batches {
+        write!(said, " {}+{}", batch.0, batch.1)?;
+    }
+    Ok(())
+}
 
-const ROWS: [Row; 22] = [
-    Row {
-        zero: Part {
-            len: 0,
-            changes: &[],
-            behind: &[],
-        },
-        one: Part {
-            len: 0,
-            changes: &[],
-            behind: &[],
-        },
-        wanted: Ok(&[]),
-    },
-    Row {
-        zero: Part {
-            len: 1,
-            changes: &[],
-            behind: &[],
-        },
-        one: Part {
-            len: 0,
-            changes: &[],
-            behind: &[],
-        },
-        wanted: Ok(&[]),
-    },
-    Row {
-        zero: Part {
-            len: 124,
-            changes: &[],
-            behind: &[],
-        },
-        one: Part {
-            len: 0,
-            changes: &[],
-            behind: &[],
-        },
-        wanted: Ok(BOTH),
-    },
-    Row {
-        zero: Part {
-            len: 0,
-            changes: &[],
-            behind: &[],
-        },
-        one: Part {
-            len: 124,
-            changes: &[],
-            behind: &[],
-        },
-        wanted: Ok(BOTH),
-    },
-    Row {
-        zero: Part {
-            len: 18,
-            changes: &[],
-            behind: &[],
-        },
-        one: Part {
-            len: 0,
-            changes: &[],
-            behind: &[],
-        },
-        wanted: Ok(&[]),
-    },
-    Row {
-        zero: Part {
-            len: 124,
-            changes: &[(1, 0x4a)],
-            behind: &[],
-        },
-        one: Part {
-            len: 0,
-            changes: &[],
-            behind: &[],
-        },
-        wanted: Err((Area::Zero, 1)),
-    },
-    Row {
-        zero: Part {
-            len: 8,
-            changes: &[],
-            behind: &[],
-        },
-        one: Part {
-            len: 0,
-            changes: &[],
-            behind: &[],
-        },
-        wanted: Err((Area::Zero, 1)),
-    },
-    Row {
-        zero: Part {
-            len: 16,
-            changes: &[],
-            behind: &[],
-        },
-        one: Part {
-            len: 0,
-            changes: &[],
-            behind: &[],
-        },
-        wanted: Err((Area::Zero, 9)),
-    },
-    Row {
-        zero: Part {
-            len: 17,
-            changes: &[],
-            behind: &[],
-        },
-        one: Part {
-            len: 0,
-            changes: &[],
-            behind: &[],
-        },
-        wanted: Err((Area::Zero, 17)),
-    },
-    Row {
-        zero: Part {
-            len: 60,
-            changes: &[],
-            behind: &[],
-        },
-        one: Part {
-            len: 0,
-            changes: &[],
-            behind: &[],
-        },
-        wanted: Err((Area::Zero, 18)),
-    },
-    Row {
-        zero: Part {
-            len: 69,
-            changes: &[],
-            behind: &[],
-        },
-        one: Part {
-            len: 0,
-            changes: &[],
-            behind: &[],
-        },
-        wanted: Err((Area::Zero, 18)),
-    },
-    Row {
-        zero: Part {
-            len: 70,
-            changes: &[],
-            behind: &[],
-        },
-        one: Part {
-            len: 0,
-            changes: &[],
-            behind: &[],
-        },
-        wanted: Ok(&[(17, 43)]),
-    },
-    Row {
-        zero: Part {
-            len: 75,
-            changes: &[],
-            behind: &[],
-        },
-        one: Part {
-            len: 0,
-            changes: &[],
-            behind: &[],
-        },
-        wanted: Err((Area::Zero, 70)),
-    },
-    Row {
-        zero: Part {
-            len: 124,
-            changes: &[(16, 0)],
-            behind: &[],
-        },
-        one: Part {
-            len: 0,
-            changes: &[],
-            behind: &[],
-        },
-        wanted: Err((Area::Zero, 9)),
-    },
-    Row {
-        zero: Part {
-            len: 124,
-            changes: &[(18, 0xff)],
-            behind: &[],
-        },
-        one: Part {
-            len: 0,
-            changes: &[],
-            behind: &[],
-        },
-        wanted: Err((Area::Zero, 18)),
-    },
-    Row {
-        zero: Part {
-            len: 124,
-            changes: &[(69, 0xa4)],
-            behind: &[],
-        },
-        one: Part {
-            len: 0,
-            changes: &[],
-            behind: &[],
-        },
-        wanted: Ok(&[(17, 43)]),
-    },
-    Row {
-        zero: Part {
-            len: 124,
-            changes: &[(0, 0)],
-            behind: &[],
-        },
-        one: Part {
-            len: 0,
-            changes: &[],
-            behind: &[],
-        },
-        wanted: Ok(&[]),
-    },
-    Row {
-        zero: Part {
-            len: 124,
-            changes: &[],
-            behind: &[],
-        },
-        one: Part {
-            len: 124,
-            changes: &[],
-            behind: &[],
-        },
-        wanted: Err((Area::One, 9)),
-    },
-    Row {
-        zero: Part {
-            len: 18,
-            changes: &[],
-            behind: &[],
-        },
-        one: Part {
-            len: 124,
-            changes: &[(16, 2)],
-            behind: &[],
-        },
-        wanted: Ok(BOTH),
-    },
-    Row {
-        zero: Part {
-            len: 124,
-            changes: &[(15, 1)],
-            behind: &[1, 2, 3],
-        },
-        one: Part {
-            len: 70,
-            changes: &[],
-            behind: &[],
-        },
-        wanted: Ok(BOTH),
-    },
-    Row {
-        zero: Part {
-            len: 124,
-            changes: &[],
-            behind: &[],
-        },
-        one: Part {
-            len: 17,
-            changes: &[],
-            behind: &[],
-        },
-        wanted: Err((Area::One, 17)),
-    },
-    Row {
-        zero: Part {
-            len: 17,
-            changes: &[],
-            behind: &[],
-        },
-        one: Part {
-            len: 8,
-            changes: &[],
-            behind: &[],
-        },
-        wanted: Err((Area::Zero, 17)),
-    },
-];
+fn found_in(alloc: Global, zero: &[u8], one: &[u8], said: &mut String) -> Result<(), Fail> {
+    let mut disk = disk_with(alloc, None, None, Image::Dropped)?;
+    put(&mut disk, Area::Zero, zero);
+    put(&mut disk, Area::One, one);
+    let _ = load(alloc, disk, said);
+    Ok(())
+}
+
+// The row, and what the plain program and a load say of it.
+fn row_said(alloc: Global, row: (Part, Part, &str), said: &mut [String; 3]) -> Result<(), Fail> {
+    let zero = part_bytes(alloc, row.0)?;
+    let one = part_bytes(alloc, row.1)?;
+    said[0].push_str(row.2)?;
+    tell_plainly(alloc, &zero, &one, &mut said[1])?;
+    found_in(alloc, &zero, &one, &mut said[2])
+}
 
 #[test]
 fn areas_are_found_as_the_format_says(rt: HostRuntime) -> Result<(), Fail> {
     let alloc = rt.alloc();
-    for (k, row) in ROWS.iter().enumerate() {
-        let zero = bytes_of(alloc, &row.zero)?;
-        let one = bytes_of(alloc, &row.one)?;
-        let wanted = match row.wanted {
-            Ok(batches) => Ok(Vec::from_slice(alloc, batches)?),
-            Err(fault) => Err(fault),
-        };
-        assert!(rt;
-            plainly_found(alloc, &zero, &one)? == wanted,
-            "the plain program, row {k}"
-        );
-        let mut disk = disk_with(alloc, 1000, None, None, Image::Dropped)?;
-        assert!(rt; written(&mut disk, Area::Zero, &zero));
-        assert!(rt; written(&mut disk, Area::One, &one));
-        assert!(rt; load_finds(alloc, disk)? == Some(wanted), "load, row {k}");
+    let mut said = [String::new(alloc), String::new(alloc), String::new(alloc)];
+    for row in &ROWS {
+        row_said(alloc, *row, &mut said)?;
     }
+    assert_eq!(rt; said[1].as_str(), said[0].as_str(), "the plain program");
+    assert_eq!(rt; said[2].as_str(), said[0].as_str(), "a load");
     Ok(())
 }
 
-// The last gate is no closed gate as it is written, and bytes stand behind it.
-const TO_REPAIR: Part = Part {
-    len: 124,
-    changes: &[(123, 0x77)],
-    behind: &[9, 9, 9],
-};
-
-fn holds_worked(disk: &MemoryDisk) -> bool {
-    disk.bytes(Area::Zero) == WORKED.as_slice()
-}
-
-#[test]
-fn a_load_repairs_the_end_whatever_stops_it(rt: HostRuntime) -> Result<(), Fail> {
-    let alloc = rt.alloc();
-    let bytes = bytes_of(alloc, &TO_REPAIR)?;
-    for image in &IMAGES {
-        // Two calls write the area. The load syncs, reads, cuts, and writes the gate.
-        for stops in [true, false] {
-            let mut k = 2u64;
-            let mut whole = false;
-            for _ in 0..40u32 {
-                let (fails, stop) = if stops {
-                    (None, Some(k))
-                } else {
-                    (k.checked_add(1), None)
-                };
-                let mut disk = disk_with(alloc, 1000, fails, stop, *image)?;
-                assert!(rt; written(&mut disk, Area::Zero, &bytes));
-                let mut disk = match loaded(alloc, disk) {
-                    Ok((log, found)) => {
-                        assert_eq!(rt; found.len(), 2);
-                        whole = true;
-                        disk_in(log)
-                    }
-                    Err((error, disk)) => {
-                        assert!(rt; error == LogError::DiskFault, "{image:?} after {k}");
-                        disk
-                    }
-                };
-                if stops {
-                    assert!(rt; restarted(&mut disk));
-                }
-                if whole {
-                    assert!(rt; holds_worked(&disk));
-                    break;
-                }
-                let (log, found) = loaded(alloc, disk).ok().ok_or("the log again")?;
-                assert_eq!(rt; found.len(), 2, "{image:?} after {k}");
-                assert!(rt; holds_worked(&disk_in(log)), "{image:?} after {k}");
-                k = k.wrapping_add(1);
-            }
-            assert!(rt; whole, "a load that goes through");
-        }
-    }
-    Ok(())
-}
-
-type Made = Result<GateLog<MemoryDisk>, (LogError, MemoryDisk)>;
-
-fn created(
-    alloc: Global,
-    fails: Option<u64>,
-    stop_after: Option<u64>,
-    image: Image,
-) -> Result<Made, Fail> {
-    let mut fail_at = Vec::new(alloc);
-    if let Some(k) = fails {
-        fail_at.push(k)?;
-    }
-    let plan = DiskPlan {
-        fail_at,
-        stop_after,
-        image,
+// The calls and the room that so many appends took, behind a second load.
+fn appended(alloc: Global, times: u32) -> Result<(u64, u64), Fail> {
+    let mut said = String::new(alloc);
+    let disk = disk_with(alloc, None, None, Image::Dropped)?;
+    let State::Log(log) = load(alloc, disk, &mut said) else {
+        return Ok((0, 0));
     };
-    let disk = MemoryDisk::with_room(alloc, 1000, 1000, plan)?;
-    Ok(GateLog::create(disk, Area::One, 7))
-}
-
-#[test]
-fn a_new_log_is_there_or_not(rt: HostRuntime) -> Result<(), Fail> {
-    let alloc = rt.alloc();
-    for image in &IMAGES {
-        // A length, and three writes with a sync each. A write that fails may still reach the disk.
-        for k in 0..=7u64 {
-            let stopped = created(alloc, None, Some(k), *image)?;
-            assert_eq!(rt; stopped.is_ok(), k == 7);
-            let mut disk = match stopped {
-                Ok(log) => disk_in(log),
-                Err((_, disk)) => disk,
-            };
-            assert!(rt; restarted(&mut disk));
-            let (log, found) = loaded(alloc, disk).ok().ok_or("a log")?;
-            assert_eq!(rt; found.len(), 0);
-            let is_there = k == 7 || (k >= 5 && matches!(image, Image::Kept | Image::Byte(0xa5)));
-            assert_eq!(rt;
-                log.generation(),
-                if is_there { 7 } else { 1 },
-                "{image:?} after {k}"
-            );
-            assert!(rt; created(alloc, k.checked_add(1), None, *image)?.is_ok() == (k == 7));
-        }
-    }
-    Ok(())
-}
-
-#[test]
-fn many_appends_cost_what_they_bring(rt: HostRuntime) -> Result<(), Fail> {
-    let alloc = rt.alloc();
-    let disk = disk_with(alloc, 100_000, None, None, Image::Dropped)?;
-    let (log, _) = loaded(alloc, disk).ok().ok_or("a new log")?;
-    let disk = disk_in(log);
+    let disk = log.into_disk();
     let calls = disk.calls_made();
     let room = disk.room();
-    let (mut log, _) = loaded(alloc, disk).ok().ok_or("the log")?;
+    let State::Log(mut log) = load(alloc, disk, &mut said) else {
+        return Ok((0, 0));
+    };
     let frame = Frame::new(alloc, &[7; 30])?;
-    for _ in 0..10_000u32 {
-        assert!(rt; appended(&mut log, &frame).is_ok());
+    for _ in 0..times {
+        let _ = log.append(&frame);
     }
-    let disk = disk_in(log);
-    // The second load makes ten calls and writes nothing. An append makes four, and writes a frame and a gate.
-    assert_eq!(rt; disk.calls_made(), calls.wrapping_add(10 + 40_000));
-    assert_eq!(rt; disk.room(), room.wrapping_sub(10_000 * (8 + 30 + 1 + 1)));
-    Ok(())
+    let disk = log.into_disk();
+    Ok((
+        disk.calls_made().wrapping_sub(calls),
+        room.wrapping_sub(disk.room()),
+    ))
 }
 
-fn read_again(alloc: Global, log: &mut GateLog<MemoryDisk>) -> Option<Batches> {
-    log.batches(alloc).ok()
-}
-
+// The second load makes ten calls and writes nothing. An append makes four, and writes a frame and a gate.
 #[test]
-fn the_batches_of_a_log_are_read_again(rt: HostRuntime) -> Result<(), Fail> {
-    let alloc = rt.alloc();
-    let disk = disk_with(alloc, 1000, None, None, Image::Kept)?;
-    let (mut log, found) = loaded(alloc, disk).ok().ok_or("a new log")?;
-    assert!(rt; are(&found, &[]));
-    assert_eq!(rt; log.generation(), 1);
-    for payload in [ONE, &[], TWO] {
-        let frame = Frame::new(alloc, payload)?;
-        assert!(rt; appended(&mut log, &frame).is_ok());
-    }
-    let again = read_again(alloc, &mut log).ok_or("the batches")?;
-    assert!(rt; are(&again, &[(17, ONE), (29, &[]), (38, TWO)]));
-    Ok(())
-}
-
-// A log in the other area, of the next generation, with one batch.
-fn switched(alloc: Global, disk: MemoryDisk, first: &Frame) -> Option<Made> {
-    let Ok(opened) = GateLog::load(alloc, disk) else {
-        return None;
-    };
-    let (log, _) = opened;
-    let generation = log.generation();
-    if generation == u64::MAX {
-        return None;
-    }
-    let area = match log.area() {
-        Area::Zero => Area::One,
-        Area::One => Area::Zero,
-    };
-    Some(GateLog::create_with(log.into_disk(), area, generation + 1, first))
-}
-
-// Over the worked area: whether a log with a first batch was made, the generation and the number of batches that are
-// found after a restart, and whether they are that first batch. None: another answer than these.
-fn taken_over(
-    alloc: Global,
-    fails: Option<u64>,
-    stop_after: Option<u64>,
-    image: Image,
-    first: &Frame,
-) -> Result<Option<(bool, u64, usize, bool)>, Fail> {
-    let mut disk = disk_with(alloc, 1000, fails, stop_after, image)?;
-    if !written(&mut disk, Area::Zero, &WORKED) {
-        return Ok(None);
-    }
-    let (is_made, mut disk) = match switched(alloc, disk, first) {
-        Some(Ok(log)) => (true, disk_in(log)),
-        Some(Err((LogError::DiskFault, disk))) => (false, disk),
-        _ => return Ok(None),
-    };
-    if !restarted(&mut disk) {
-        return Ok(None);
-    }
-    match loaded(alloc, disk) {
-        Ok((log, found)) => Ok(Some((
-            is_made,
-            log.generation(),
-            found.len(),
-            are(&found, &[(17, ONE)]),
-        ))),
-        Err(_) => Ok(None),
-    }
-}
-
-#[test]
-fn a_log_with_a_first_batch_takes_over_or_does_not(rt: HostRuntime) -> Result<(), Fail> {
-    let alloc = rt.alloc();
-    let first = Frame::new(alloc, ONE)?;
-    let mut dry = disk_with(alloc, 1000, None, None, Image::Kept)?;
-    assert!(rt; written(&mut dry, Area::Zero, &WORKED));
-    let (log, _) = loaded(alloc, dry).ok().ok_or("a log")?;
-    let before = disk_in(log).calls_made();
-    for image in &IMAGES {
-        // A length, 00 at 0, the rest in two writes, and a5 at 0, with a sync after each of the three. Stopped after k
-        // calls, or with the next one failing, what was not synced is in doubt.
-        for k in 0..=8u64 {
-            let is_new = k == 8 || (k >= 6 && matches!(image, Image::Kept | Image::Byte(0xa5)));
-            let wanted = if is_new {
-                Some((k == 8, 2, 1, true))
-            } else {
-                Some((false, 1, 2, false))
-            };
-            let stopped = taken_over(alloc, None, before.checked_add(k), *image, &first)?;
-            assert!(rt; stopped == wanted, "{image:?}, stopped after {k}");
-            if k < 8 {
-                let fails = before.checked_add(k.wrapping_add(1));
-                let failed = taken_over(alloc, fails, None, *image, &first)?;
-                assert!(rt; failed == wanted, "{image:?}, failed after {k}");
-            }
-        }
-    }
+fn many_appends_cost_what_they_bring(rt: HostRuntime) -> Result<(), Fail> {
+    let cost = appended(rt.alloc(), 10_000)?;
+    assert_eq!(rt; cost, (10 + 40_000, 10_000 * (8 + 30 + 1 + 1)));
     Ok(())
 }

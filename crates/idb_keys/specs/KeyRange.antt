@@ -1,4 +1,4 @@
--- Key ranges (Indexed Database API 3.0, 2.9).
+-- Key ranges (Indexed Database API 3.0, "Key range").
 --     Bound, Range          a range as plain data
 --     range_of_one, range_from, range_to, range_between      the ranges that the four constructors give; every_key
 --     IsInRange             the key is in the range, and includes, the test
@@ -62,11 +62,12 @@ abbrev pub MeetsUpper : Option Bound → KeyTree → Type 0
 MeetsUpper None key = ⊤
 MeetsUpper (Some bound) key = IsBelow key bound.key ⊎ ((bound.key ≡ key) × (bound.is_open ≡ false))
 
--- the key is in the range (2.9, "in")
+-- the key is in the range ("in")
 abbrev pub IsInRange : KeyTree → Range → Type 0
 IsInRange key range = MeetsLower range.lower key × MeetsUpper range.upper key
 
--- the lower bound is above the upper one, or both have one key and one of them is open (the latter is a rule of this database's own)
+-- the lower bound is above the upper one, or both have one key and one of them is open (the latter is a rule of this
+-- database's own)
 abbrev pub BoundsExclude : Bound → Bound → Type 0
 BoundsExclude lower upper = IsBelow upper.key lower.key ⊎ ((lower.key ≡ upper.key) × ((lower.is_open ≡ true) ⊎ (upper.is_open ≡ true)))
 

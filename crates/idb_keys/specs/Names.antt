@@ -1,4 +1,4 @@
--- The names of errors (Web IDL, "DOMException", and Indexed Database API 3.0, 3).
+-- The names of errors (Web IDL, "DOMException", and Indexed Database API 3.0, "Exceptions").
 use Rattle.std.specs.Prelude.{ℕ, List, codes}
 use Rattle.idb_keys.specs.declared.names.ErrorName.{ErrorName}
 use Rattle.idb_keys.specs.declared.names.ErrorName.TheVariants as error

@@ -56,7 +56,7 @@ impl fmt::Display for ErrorName {
     }
 }
 
-/// What a transaction may do (Indexed Database API 3.0, 2.7, "mode").
+/// What a transaction may do (Indexed Database API 3.0, "mode").
 #[derive(Clone, Copy, Debug, PartialEq, Eq)]
 pub enum Mode {
     ReadOnly,
@@ -64,14 +64,14 @@ pub enum Mode {
     VersionChange,
 }
 
-/// What a commit waits for (Indexed Database API 3.0, 2.7, "durability hint").
+/// What a commit waits for (Indexed Database API 3.0, "durability hint").
 #[derive(Clone, Copy, Debug, PartialEq, Eq)]
 pub enum Durability {
     Strict,
     Relaxed,
 }
 
-/// Which way a cursor moves (Indexed Database API 3.0, 2.10, "direction"); the unique ones give one row a key.
+/// Which way a cursor moves (Indexed Database API 3.0, "direction"); the unique ones give one row a key.
 #[derive(Clone, Copy, Debug, PartialEq, Eq)]
 pub enum Direction {
     Next,

@@ -1,4 +1,4 @@
-// Key ranges (Indexed Database API 3.0, 2.9).
+// Key ranges (Indexed Database API 3.0, "Key range").
 ghost use Rattle.std.specs.Prelude.{◌≡◌, ◌↔◌, Bool, false, option_map, IsTrue, IfOk, IsErrOf, Option};
 ghost use Rattle.clone_values.specs.KeyTree.{KeyTree};
 ghost use Rattle.key_order.specs.KeyOrder.{IsBelow};
@@ -6,7 +6,8 @@ ghost use Rattle.clone_values.specs.View.{key_tree_of};
 ghost use Rattle.idb_keys.specs.KeyRange.{Bound, Range, bound_at, range_of_one, range_from, range_to, range_between, every_key, MeetsLower, MeetsUpper, IsInRange, BoundsExclude, IsEmptyRange, IsRange, admits, meets_lower, meets_upper, includes};
 ghost use Rattle.idb_keys.specs.View.{bound_of, range_of, bound_shown};
 
-use clone_values::{Key, NoMemory};
+use clone_values::Key;
+use idb_base::NoMemory;
 use key_order::{compare, key_order_laws};
 use std::alloc::Global;
 use std::cmp::Ordering;
@@ -58,6 +59,16 @@ impl KeyRange {
             lower: Some(end_at(copy, false)),
             upper: Some(end_at(key, false)),
         })
+    }
+
+    /// The range of all keys, which stands for a range that is left out; it takes no memory.
+    pub fn all() -> KeyRange
+        ensures { result ≡ every_key }
+    {
+        KeyRange {
+            lower: None,
+            upper: None,
+        }
     }
 
     /// The range of all keys from this one on, which itself is left out if the end is open.

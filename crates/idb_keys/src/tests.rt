@@ -3,7 +3,7 @@ use clone_values::{Bytes, Key, Keys, Text};
 use std::alloc::Global;
 use std::test::Fail;
 
-/// Twelve keys that rise by the standard's words (Indexed Database API 3.0, 2.4): by type, numbers and dates by value,
+/// Twelve keys that rise by the standard's words (Indexed Database API 3.0, "compare two keys"): by type, numbers and dates by value,
 /// strings by code units (U+10000 begins with D800, which is below FF61), binaries by bytes, arrays by members.
 fn rising_key(alloc: Global, place: usize) -> Result<Key, Fail> {
     Ok(match place {
@@ -40,7 +40,7 @@ fn picture(alloc: Global, range: &KeyRange) -> Result<String, Fail> {
     Ok(marks)
 }
 
-/// The range with bounds at these places of the twelve keys; without any, the range of the first key alone.
+/// The range with bounds at these places of the twelve keys; without any, the range of all keys.
 fn range_of(alloc: Global, lower: Place, upper: Place) -> Result<KeyRange, Fail> {
     Ok(match (lower, upper) {
         (Some((low, low_open)), Some((high, high_open))) => KeyRange::bound(
@@ -51,7 +51,7 @@ fn range_of(alloc: Global, lower: Place, upper: Place) -> Result<KeyRange, Fail>
         )?,
         (Some((low, open)), None) => KeyRange::lower(rising_key(alloc, low)?, open),
         (None, Some((high, open))) => KeyRange::upper(rising_key(alloc, high)?, open),
-        (None, None) => KeyRange::only(alloc, rising_key(alloc, 0)?)?,
+        (None, None) => KeyRange::all(),
     })
 }
 
@@ -80,7 +80,7 @@ static ROWS: [(Place, Place, &str); 22] = [
     (Some((4, false)), Some((9, true)), "....xxxxx..."),
     (Some((10, true)), Some((11, false)), "...........x"),
     (Some((8, false)), Some((8, false)), "........x..."),
-    (None, None, "x..........."),
+    (None, None, "xxxxxxxxxxxx"),
 ];
 
 /// Which keys a range includes, over open and closed bounds and keys of all types.

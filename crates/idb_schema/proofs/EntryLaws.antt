@@ -10,12 +10,12 @@ use Rattle.idb_schema.specs.Definitions.{store_names}
 use Rattle.idb_schema.specs.Numbers.{AreIds}
 use Rattle.idb_schema.specs.Schemas.{entry_names, entries_from, new_entry, change_at, entry_with_index, entry_without_index, IsEntry, AreEntries, FitsAt}
 use Rattle.idb_schema.proofs.All.{all_put, all_remove, all_at}
-use Rattle.idb_schema.proofs.NumberLaws.{ids_put, ids_push, ids_remove, counted_are_ids, length-counted}
+use Rattle.idb_schema.proofs.NumberLaws.{ids_put, ids_push, ids_remove, numbers_below_are_ids, length-numbers_below}
 use Rattle.idb_schema.proofs.NameOrder.{sorted_from, rising_from, sorted_put, sorted_remove}
 
 -- ---- a new store
 pub new_is_entry : (info : StoreInfo) (id : ℕ) → IsEntry (new_entry info id)
-new_is_entry info id = record { beside = length-counted (length info.indexes); ids = counted_are_ids (length info.indexes) }
+new_is_entry info id = record { beside = length-numbers_below (length info.indexes); ids = numbers_below_are_ids (length info.indexes) }
 
 map-insert : {X Y : Type 0} (f : X → Y) (xs : List X) (i : ℕ) (y : X) → map f (take i xs ++ y ∷ drop i xs) ≡ take i (map f xs) ++ f y ∷ drop i (map f xs)
 map-insert f xs zero y = refl

@@ -6,7 +6,7 @@ use Rattle.std.specs.Cmp.Lexicographic.{slice_cmp}
 use Rattle.std.proofs.lemmas.Bool.{eq-eqb, ne_eqb}
 use Rattle.std.proofs.lemmas.Option.{slice_get-map}
 use Rattle.idb_schema.specs.declared.entries.StoreEntry.{StoreEntry}
-use Rattle.idb_schema.specs.Numbers.{Lacks, AreIds}
+use Rattle.idb_schema.specs.Numbers.{LacksNumber, AreIds}
 use Rattle.idb_schema.specs.Schemas.{entry_of, put_in_order, change_at}
 use Rattle.idb_schema.proofs.Named.{other}
 
@@ -19,7 +19,7 @@ found_beside_new (d ∷ ds) e n differs =
       | false ↦ ap (λ r. if d.id == n then Some d else r) (found_beside_new ds e n differs)
     ]
 
-pub new_found : (es : List StoreEntry) (e : StoreEntry) → Lacks (map (λ d. d.id) es) e.id → entry_of (put_in_order es e) e.id ≡ Some e
+pub new_found : (es : List StoreEntry) (e : StoreEntry) → LacksNumber (map (λ d. d.id) es) e.id → entry_of (put_in_order es e) e.id ≡ Some e
 new_found [] e h = rw (eq-eqb e.id e.id refl) refl
 new_found (d ∷ ds) e h =
     elim (is_lt (slice_cmp nat_cmp e.info.name d.info.name)) as (λ b. entry_of (if b then e ∷ d ∷ ds else d ∷ put_in_order ds e) e.id ≡ Some e) [

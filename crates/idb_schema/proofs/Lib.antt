@@ -7,6 +7,7 @@ pub mod Named
 pub mod IdLaws
 pub mod NameLaws
 pub mod PlaceLaws
+pub mod Laws
 pub mod DefinitionLaws
 pub mod Pushes
 pub mod GivenLaws

@@ -6,12 +6,12 @@ use Rattle.std.proofs.lemmas.Option.{slice_get-map, slice_get-get_or}
 use Rattle.std.proofs.lemmas.List.Quantifiers.{position-Some}
 use Rattle.std.proofs.lemmas.Grind.{common_steps}
 use Rattle.idb_schema.specs.declared.definitions.IndexInfo.{IndexInfo}
-use Rattle.idb_schema.specs.Numbers.{Lacks, AreIds}
+use Rattle.idb_schema.specs.Numbers.{LacksNumber, AreIds}
 use Rattle.idb_schema.specs.Schemas.{index_beside}
 use Rattle.idb_schema.proofs.All.{within}
 
 -- what stands among numbers is none that they lack
-pub other : (ids : List ℕ) (m p n : ℕ) → Lacks ids m → slice_get ids p ≡ Some n → n ≢ m
+pub other : (ids : List ℕ) (m p n : ℕ) → LacksNumber ids m → slice_get ids p ≡ Some n → n ≢ m
 other [] m p n h e = absurd (cc)
 other (i ∷ ids) m zero n h e = λ same. h.0 (let first : i ≡ n = cc in first ∙ same)
 other (i ∷ ids) m (suc p) n h e = other ids m p n h.1 e
@@ -43,7 +43,7 @@ module _ {X : Type 0} (key : X → ℕ) where
       let differs : (key x == n) ≡ false = ne_eqb (key x) n (λ same. other (map key xs) (key x) p n h.1 e (sym same)) in
       rw differs (found_at xs p n next h.2 e)
 
-  pub none_found : (xs : List X) (n : ℕ) → Lacks (map key xs) n → find (λ x. key x == n) xs ≡ None
+  pub none_found : (xs : List X) (n : ℕ) → LacksNumber (map key xs) n → find (λ x. key x == n) xs ≡ None
   none_found [] n h = refl
   none_found (x ∷ xs) n h = rw (ne_eqb (key x) n h.0) (none_found xs n h.1)
 
@@ -55,7 +55,7 @@ module _ {X : Type 0} (key : X → ℕ) where
 
   pub found_no_more : (xs : List X) (p n next : ℕ) → AreIds (map key xs) next → slice_get (map key xs) p ≡ Some n → find (λ x. key x == n) (remove xs p) ≡ None
   found_no_more [] p n next h e = absurd (cc)
-  found_no_more (x ∷ xs) zero n next h e = let same : key x ≡ n = cc in none_found xs n (subst (Lacks (map key xs)) same h.1)
+  found_no_more (x ∷ xs) zero n next h e = let same : key x ≡ n = cc in none_found xs n (subst (LacksNumber (map key xs)) same h.1)
   found_no_more (x ∷ xs) (suc p) n next h e =
       let differs : (key x == n) ≡ false = ne_eqb (key x) n (λ same. other (map key xs) (key x) p n h.1 e (sym same)) in
       rw differs (found_no_more xs p n next h.2 e)
@@ -74,13 +74,13 @@ beside_after_push [] (j ∷ is) m i n size differs = absurd (omega arith)
 beside_after_push (k ∷ ns) [] m i n size differs = absurd (omega arith)
 beside_after_push (k ∷ ns) (j ∷ is) m i n size differs = ap (λ r. if k == n then Some j else r) (beside_after_push ns is m i n (omega arith) differs)
 
-pub beside_pushed : (ns : List ℕ) (is : List IndexInfo) (m : ℕ) (i : IndexInfo) → length ns ≡ length is → Lacks ns m → index_beside (ns ++ m ∷ []) (is ++ i ∷ []) m ≡ Some i
+pub beside_pushed : (ns : List ℕ) (is : List IndexInfo) (m : ℕ) (i : IndexInfo) → length ns ≡ length is → LacksNumber ns m → index_beside (ns ++ m ∷ []) (is ++ i ∷ []) m ≡ Some i
 beside_pushed [] [] m i size h = rw (eq-eqb m m refl) refl
 beside_pushed [] (j ∷ is) m i size h = absurd (omega arith)
 beside_pushed (k ∷ ns) [] m i size h = absurd (omega arith)
 beside_pushed (k ∷ ns) (j ∷ is) m i size h = rw (ne_eqb k m h.0) (beside_pushed ns is m i (omega arith) h.1)
 
-nothing_beside : (ns : List ℕ) (is : List IndexInfo) (n : ℕ) → Lacks ns n → index_beside ns is n ≡ None
+nothing_beside : (ns : List ℕ) (is : List IndexInfo) (n : ℕ) → LacksNumber ns n → index_beside ns is n ≡ None
 nothing_beside [] is n h = refl
 nothing_beside (m ∷ ns) [] n h = refl
 nothing_beside (m ∷ ns) (i ∷ is) n h = rw (ne_eqb m n h.0) (nothing_beside ns is n h.1)
@@ -95,7 +95,7 @@ beside_still (k ∷ ns) (j ∷ is) (suc p) n size h = ap (λ r. if k == n then S
 
 pub beside_no_more : (ns : List ℕ) (is : List IndexInfo) (p n next : ℕ) → AreIds ns next → slice_get ns p ≡ Some n → index_beside (remove ns p) (remove is p) n ≡ None
 beside_no_more [] is p n next h e = absurd (cc)
-beside_no_more (m ∷ ns) is zero n next h e = let same : m ≡ n = cc in nothing_beside ns (drop 1 is) n (subst (Lacks ns) same h.1)
+beside_no_more (m ∷ ns) is zero n next h e = let same : m ≡ n = cc in nothing_beside ns (drop 1 is) n (subst (LacksNumber ns) same h.1)
 beside_no_more (m ∷ ns) [] (suc p) n next h e = refl
 beside_no_more (m ∷ ns) (i ∷ is) (suc p) n next h e =
     rw (ne_eqb m n (λ same. other ns m p n h.1 e (sym same))) (beside_no_more ns is p n next h.2 e)

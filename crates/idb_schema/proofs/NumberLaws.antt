@@ -1,9 +1,9 @@
 -- Distinct numbers below the next one, after one is added or taken out.
 use Rattle.std.proofs.Common.{◌≡◌, ◌≢◌, ℕ, zero, suc, ◌<◌, ◌≤◌, List, [], ◌∷◌, ◌++◌, length, length-append, take, drop, arith}
-use Rattle.idb_schema.specs.Numbers.{counted, Lacks, AreIds}
+use Rattle.idb_schema.specs.Numbers.{numbers_below, LacksNumber, AreIds}
 use Rattle.idb_schema.proofs.All.{all_join, all_put, all_remove}
 
-pub next_is_new : (ids : List ℕ) (next : ℕ) → AreIds ids next → Lacks ids next
+pub next_is_new : (ids : List ℕ) (next : ℕ) → AreIds ids next → LacksNumber ids next
 next_is_new [] next h = tt
 next_is_new (i ∷ ids) next h = (λ same. omega (arith, same, h.0), next_is_new ids next h.2)
 
@@ -28,10 +28,10 @@ ids_remove [] (suc i) next h = tt
 ids_remove (j ∷ ids) zero next h = h.2
 ids_remove (j ∷ ids) (suc i) next h = (h.0, all_remove (λ k. k ≢ j) ids i h.1, ids_remove ids i next h.2)
 
-pub counted_are_ids : (n : ℕ) → AreIds (counted n) n
-counted_are_ids zero = tt
-counted_are_ids (suc n) = ids_push (counted n) n (suc n) (omega arith) (counted_are_ids n)
+pub numbers_below_are_ids : (n : ℕ) → AreIds (numbers_below n) n
+numbers_below_are_ids zero = tt
+numbers_below_are_ids (suc n) = ids_push (numbers_below n) n (suc n) (omega arith) (numbers_below_are_ids n)
 
-pub length-counted : (n : ℕ) → length (counted n) ≡ n
-length-counted zero = omega arith
-length-counted (suc n) = omega (arith, length-append (counted n) (n ∷ []), length-counted n)
+pub length-numbers_below : (n : ℕ) → length (numbers_below n) ≡ n
+length-numbers_below zero = omega arith
+length-numbers_below (suc n) = omega (arith, length-append (numbers_below n) (n ∷ []), length-numbers_below n)

@@ -1,4 +1,4 @@
--- Definitions of object stores and indexes (Indexed Database API 3.0, 2.5 and 2.6).
+-- Definitions of object stores and indexes (Indexed Database API 3.0, "Object store" and "Index").
 --     store_names, index_names      the names of a list of definitions, in order
 --     store_named, index_named      the place of a name
 --     IsIndexInfo, IsStoreInfo      what the standard asks of a definition
@@ -46,11 +46,11 @@ takes_generator None = true
 takes_generator (Some (One s)) = not (length s == 0)
 takes_generator (Some (Many ss)) = false
 
--- a multi-entry index has no list of strings as its key path (2.6, 4.5 "createIndex")
+-- a multi-entry index has no list of strings as its key path ("createIndex")
 abbrev pub is_index_info : IndexInfo → Bool
 is_index_info i = not (i.multi && is_list_path i.path)
 
--- a store with a key generator has no key path, or one string that is not empty (4.4 "createObjectStore"); its indexes are
+-- a store with a key generator has no key path, or one string that is not empty ("createObjectStore"); its indexes are
 -- definitions as they should be, and have distinct names
 abbrev pub is_store_info : StoreInfo → Bool
 is_store_info s = (not s.auto || takes_generator s.path) && list_all is_index_info s.indexes && are_distinct (index_names s.indexes)

@@ -22,7 +22,7 @@ use Rattle.idb_schema.specs.declared.identities.StoreId.{StoreId}
 use Rattle.idb_schema.specs.declared.identities.IndexId.{IndexId}
 use Rattle.idb_schema.specs.declared.entries.StoreEntry.{StoreEntry}
 use Rattle.idb_schema.specs.Definitions.{store_names}
-use Rattle.idb_schema.specs.Numbers.{counted, AreIds}
+use Rattle.idb_schema.specs.Numbers.{numbers_below, AreIds}
 
 -- a schema as plain data; an entry has the fields info, the definition, id, the number that names the store, index_ids, the
 -- numbers that name its indexes, and next_index, the number of its next index
@@ -112,7 +112,7 @@ index_of schema id = option_and_then (λ e. index_beside e.index_ids e.info.inde
 -- ---- what the calls make
 -- a store as it first stands in a schema: this number names it, and its indexes are numbered from 0
 abbrev pub new_entry : StoreInfo → ℕ → StoreEntry
-new_entry info id = record { info = info; id = id; index_ids = counted (length info.indexes); next_index = length info.indexes }
+new_entry info id = record { info = info; id = id; index_ids = numbers_below (length info.indexes); next_index = length info.indexes }
 
 -- the stores, numbered from this number on
 abbrev pub entries_from : ℕ → List StoreInfo → List StoreEntry

@@ -2,7 +2,7 @@
 use crate::identities::StoreId;
 use clone_values::{PathSpec, Text};
 
-/// A call that changes the schema (Indexed Database API 3.0, 4.4 and 4.5). Only an upgrade transaction makes one.
+/// A call that changes the schema (Indexed Database API 3.0, "The IDBDatabase interface" and "The IDBObjectStore interface"). Only an upgrade transaction makes one.
 #[derive(Debug, Drop)]
 pub enum SchemaCall {
     /// `createObjectStore`; `auto` asks for a key generator.

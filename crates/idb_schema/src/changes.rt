@@ -6,7 +6,7 @@ ghost use Rattle.idb_schema.specs.Schemas.{AreEntries, entries_from, new_entry, 
 use crate::definitions::{IndexInfo, StoreInfo};
 use crate::entries::{StoreEntry, new_entry};
 use crate::places::place_in;
-use clone_values::NoMemory;
+use idb_base::NoMemory;
 use std::alloc::Global;
 
 /// The stores, numbered from 0.
@@ -31,7 +31,8 @@ pub(crate) fn put_store(
     requires valid { AreEntries entries.old.items next_id.old }
     requires absent { store_named (infos_of entries.old.items) info.name ≡ None }
     ensures valid { AreEntries entries.new.items next_id.new }
-    ensures added { OnOk result (entries.new.items ≡ put_in_order entries.old.items (new_entry info next_id.old)) }
+    ensures added { OnOk result (entries.new.items
+        ≡ put_in_order entries.old.items (new_entry info next_id.old)) }
     ensures counted { OnOk result (next_id.new ≡ next_id.old + 1) }
     ensures unchanged { OnErr result (entries.new.items ≡ entries.old.items) }
     ensures same_count { OnErr result (next_id.new ≡ next_id.old) }
@@ -71,7 +72,8 @@ pub(crate) fn put_index(
     requires valid { AreEntries entries.old.items next_id }
     requires in_range { store < length entries.old.items }
     ensures valid { AreEntries entries.new.items next_id }
-    ensures added { OnOk result (entries.new.items ≡ change_at entries.old.items store (λ e. entry_with_index e index)) }
+    ensures added { OnOk result (entries.new.items ≡ change_at entries.old.items store
+        (λ e. entry_with_index e index)) }
     ensures unchanged { OnErr result (entries.new.items ≡ entries.old.items) }
 {
     entries[store].add_index(index)

@@ -1,17 +1,18 @@
-// The schema of a database, and lists of schemas (Indexed Database API 3.0, 2.1, 2.5 and 2.6).
+// The schema of a database, and lists of schemas (Indexed Database API 3.0, "Database", "Object store" and "Index").
 ghost use Rattle.std.specs.Prelude.{◌≡◌, ◌+◌, ◌<◌, ◌≤◌, [], ◌∷◌, ◌++◌, length, slice_get, None, Some, IfSome, IfNone, OnOk, OnErr, IfOk};
 ghost use Rattle.std.specs.Option.{option_copied};
-ghost use Rattle.clone_values.specs.Limits.{StandsAt};
+ghost use Rattle.idb_base.specs.Lists.{StandsAt};
 ghost use Rattle.idb_schema.specs.Definitions.{store_named, index_named};
 ghost use Rattle.idb_schema.specs.Schemas.{SchemaData, IsSchema, stores_of, indexes_at, NamesStore, NamesIndex, place_of, places_of, new_schema, with_store, without_store, with_index, without_index, with_version};
 
 use crate::changes::{numbered, put_index, put_store, take_index, take_store};
-use crate::definition_lists::StoreInfos;
+use crate::definition_lists::{StoreInfos, index_place};
 use crate::definitions::{IndexInfo, StoreInfo};
 use crate::entries::StoreEntry;
 use crate::identities::{IndexId, StoreId};
 use crate::places::{index_id_in, place_in, place_in_store, place_of_number};
-use clone_values::{NoMemory, Text};
+use clone_values::Text;
+use idb_base::{Listed, NoMemory};
 use std::alloc::Global;
 use std::marker::Model;
 
@@ -30,7 +31,12 @@ impl Model for Schema {
 
     ghost Value = { SchemaData };
 
-    ghost view = { λ a. record { name = a.name; version = a.version; entries = a.entries.items; next_id = a.next_id } };
+    ghost view = { λ a. record {
+      name = a.name;
+      version = a.version;
+      entries = a.entries.items;
+      next_id = a.next_id;
+    } };
 
     ghost invariant = { λ a. AreEntries a.entries.items a.next_id };
 }
@@ -111,7 +117,7 @@ impl Schema {
         ensures in_range { IfSome result (λ place. place < length (indexes_at self.now store)) }
     {
         match self.entries.get(store) {
-            Some(entry) => entry.info.indexes.place_of(name),
+            Some(entry) => index_place(&entry.info.indexes, name),
             None => None,
         }
     }
@@ -214,52 +220,4 @@ impl Schema {
 }
 
 /// Schemas, one for each database.
-#[derive(Debug, Drop)]
-pub struct Schemas {
-    items: Vec<Schema>,
-}
-
-impl Model for Schemas {
-    ghost use Rattle.std.specs.Prelude.{List};
-    ghost use Rattle.idb_schema.specs.Schemas.{SchemaData};
-
-    ghost Value = { List SchemaData };
-
-    ghost view = { λ a. a.items.items };
-}
-
-impl Schemas {
-    /// The empty list; it takes no memory.
-    pub fn new(alloc: Global) -> Self
-        ensures { result ≡ [] }
-    {
-        Schemas {
-            items: Vec::new(alloc),
-        }
-    }
-
-    /// How many schemas there are.
-    pub fn len(&self) -> usize
-        ensures { result ≡ length self.now }
-    {
-        self.items.len()
-    }
-
-    /// The schema at this place, counted from 0; `None` past the end.
-    pub fn at(&self, place: usize) -> Option<&Schema>
-        ensures item { option_copied result ≡ slice_get self.now place }
-        ensures stands { IfSome result (λ x. StandsAt self.now place x.now) }
-        ensures past_end { IfNone result (length self.now ≤ place) }
-    {
-        self.items.get(place)
-    }
-
-    /// Puts a schema at the end.
-    pub fn push(&mut self, item: Schema) -> Result<(), NoMemory>
-        ensures stored { OnOk result (self.new ≡ self.old ++ item ∷ []) }
-        ensures unchanged { OnErr result (self.new ≡ self.old) }
-    {
-        self.items.push(item)?;
-        Ok(())
-    }
-}
+pub type Schemas = Listed<Schema>;

@@ -1,12 +1,13 @@
-// Definitions of object stores and indexes (Indexed Database API 3.0, 2.5 and 2.6).
+// Definitions of object stores and indexes (Indexed Database API 3.0, "Object store" and "Index").
 ghost use Rattle.std.specs.Prelude.{◌≡◌, IfOk};
 
-use crate::definition_lists::IndexInfos;
-use clone_values::{NoMemory, Text};
+use crate::definition_lists::{IndexInfos, copy_indexes};
+use clone_values::Text;
+use idb_base::NoMemory;
 use path_grammar::KeyPath;
 use std::alloc::Global;
 
-/// The definition of an index (Indexed Database API 3.0, 2.6).
+/// The definition of an index (Indexed Database API 3.0, "Index").
 #[derive(Debug, Drop)]
 pub struct IndexInfo {
     /// The index's name.
@@ -19,7 +20,7 @@ pub struct IndexInfo {
     pub multi: bool,
 }
 
-/// The definition of an object store (Indexed Database API 3.0, 2.5).
+/// The definition of an object store (Indexed Database API 3.0, "Object store").
 #[derive(Debug, Drop)]
 pub struct StoreInfo {
     /// The store's name.
@@ -55,7 +56,7 @@ impl StoreInfo {
             name: self.name.copy(alloc)?,
             path: copy_path(alloc, &self.path)?,
             auto: self.auto,
-            indexes: self.indexes.copy(alloc)?,
+            indexes: copy_indexes(alloc, &self.indexes)?,
         })
     }
 }

@@ -3,8 +3,8 @@ ghost use Rattle.std.specs.Prelude.{◌≡◌, ◌<◌, length, OnOk, OnErr, IfO
 ghost use Rattle.idb_schema.specs.Schemas.{new_entry, entry_with_index, entry_without_index};
 
 use crate::definitions::{IndexInfo, StoreInfo};
-use crate::identities::Ids;
-use clone_values::NoMemory;
+use crate::identities::{Ids, ids_below};
+use idb_base::NoMemory;
 use std::alloc::Global;
 
 #[derive(Debug, Drop)]
@@ -23,7 +23,7 @@ pub(crate) fn new_entry(alloc: Global, info: StoreInfo, id: u64) -> Result<Store
     ensures { IfOk result (λ r. r ≡ new_entry info id) }
 {
     let count = info.indexes.len();
-    let index_ids = Ids::below(alloc, count)?;
+    let index_ids = ids_below(alloc, count)?;
     Ok(StoreEntry {
         info,
         id,
@@ -54,7 +54,7 @@ impl StoreEntry {
         }
         self.index_ids.push(self.next_index)?;
         if self.info.indexes.push(index).is_err() {
-            self.index_ids.pop();
+            self.index_ids.remove_at(self.index_ids.len() - 1);
             return Err(NoMemory);
         }
         self.next_index += 1;
@@ -68,6 +68,6 @@ impl StoreEntry {
         ensures { self.new ≡ entry_without_index self.old place }
     {
         let _ = self.info.indexes.remove_at(place);
-        self.index_ids.remove_at(place);
+        let _ = self.index_ids.remove_at(place);
     }
 }

@@ -11,15 +11,15 @@ mod definition_lists;
 mod definitions;
 mod entries;
 mod identities;
-mod laws;
 mod places;
+mod schema_laws;
 
 pub use calls::SchemaCall;
 pub use database_schema::{Schema, Schemas};
 pub use definition_lists::{IndexInfos, StoreInfos};
 pub use definitions::{IndexInfo, StoreInfo};
 pub use identities::{IndexId, StoreId};
-pub use laws::{change_laws, given_laws, id_laws, name_laws};
+pub use schema_laws::{change_laws, given_laws, id_laws, name_laws, sound_laws};
 
 #[cfg(test)]
 mod tests;

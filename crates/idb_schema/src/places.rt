@@ -5,7 +5,7 @@ ghost use Rattle.idb_schema.specs.Schemas.{AreEntries, FitsAt, entry_names, info
 ghost use Rattle.clone_values.specs.Names.{is_rising};
 
 use crate::entries::StoreEntry;
-use crate::identities::{IndexId, StoreId};
+use crate::identities::{IndexId, StoreId, place_of_id};
 use std::cmp::Ordering;
 
 /// The place of the store of this name, or the place where it would stand.
@@ -49,7 +49,7 @@ pub(crate) fn index_id_in(
     let entry = &entries[store];
     IndexId {
         store: StoreId { number: entry.id },
-        number: entry.index_ids.number_at(place),
+        number: entry.index_ids.as_slice()[place],
     }
 }
 
@@ -65,7 +65,7 @@ pub(crate) fn place_in_store(
     ensures in_range { IfSome result (λ place. place < length (indexes_of_entry entries.now store)) }
 {
     match entries.get(store) {
-        Some(entry) => entry.index_ids.place_of(number),
+        Some(entry) => place_of_id(&entry.index_ids, number),
         None => None,
     }
 }

@@ -6,24 +6,28 @@ mod streams;
 
 use clone_values::Text;
 use edge_traits::OpenGate;
+use idb_base::{GREATEST_LENGTH, NoMemory};
 use script_runner::{Ended, run_words};
-use std::alloc::{AllocError, Global};
+use std::alloc::Global;
 use std::env;
 use std::env::Env;
 use std::io::ErrorKind;
 use std::process::ExitCode;
 use streams::{StdSink, StdSource};
 
-// The words after the program's name. Where one of them is no text there are none, which is no command.
-fn words(alloc: Global, rt: &(impl Env + Alloc<A = Global>)) -> Result<Vec<Text>, AllocError> {
+// The words after the program's name. Where one of them is no text, or longer than any text, there are none, which is no command.
+fn words(alloc: Global, rt: &(impl Env + Alloc<A = Global>)) -> Result<Vec<Text>, NoMemory> {
     let mut words = Vec::new(alloc);
     match env::args(rt) {
         Ok(args) => {
             for arg in args.skip(1) {
-                words.push(Text::from_string(arg))?;
+                if arg.len() > GREATEST_LENGTH {
+                    return Ok(Vec::new(alloc));
+                }
+                words.push(Text::from_string(alloc, arg)?)?;
             }
         }
-        Err(e) if e.kind() == ErrorKind::OutOfMemory => return Err(AllocError),
+        Err(e) if e.kind() == ErrorKind::OutOfMemory => return Err(NoMemory),
         Err(_) => {}
     }
     Ok(words)

@@ -1,8 +1,8 @@
 -- Lists that a test splits, found by halving.
 --     Rises                           what stands behind a member that passes the test passes it too
---     unsplit, split_below, split_above      the whole list, and what one look at a member between tells
+--     unsplit, split_below, split_above, split_from      the whole list, and what one look at a member between tells
 --     position_of_split, failed_before, passed_behind      what a split place says
-use Rattle.std.proofs.Common.{◌≡◌, ℕ, zero, suc, ◌+◌, ◌<◌, ◌≤◌, Bool, true, false, List, [], ◌∷◌, refl, sym, ap, ◌∙◌, Option, Some, None, length, take, drop, get_or, arith}
+use Rattle.std.proofs.Common.{◌≡◌, ℕ, zero, suc, ◌+◌, ◌<◌, ◌≤◌, Bool, true, false, List, [], ◌∷◌, refl, sym, ap, subst, ◌∙◌, Option, Some, None, length, take, drop, get_or, arith}
 use Rattle.std.specs.Prelude.{cond, not, slice_get, option_map}
 use Rattle.std.specs.List.{AllPass, position_or_len}
 use Rattle.std.proofs.lemmas.Option.{slice_get-get_or, slice_get_within}
@@ -28,12 +28,12 @@ module _ {A : Type 0} (test : A → Bool) where
   seen None b e = cc
   seen (Some x) b e = (x, refl, cc)
 
-  pub unsplit : (xs : List A) → IsSplitBetween test xs 0 (length xs)
-  unsplit xs = record {
+  pub unsplit : (xs : List A) (n : ℕ) → n ≡ length xs → IsSplitBetween test xs 0 n
+  unsplit xs n all = record {
     ordered = omega arith;
-    within = omega arith;
+    within = omega (arith, all);
     before = λ i x lt at. absurd (omega arith);
-    behind = λ i x le at. absurd (omega (arith, slice_get_within xs i x at));
+    behind = λ i x le at. absurd (omega (arith, all, slice_get_within xs i x at));
   }
 
   -- a member that passes is not before the place that is looked for
@@ -63,6 +63,11 @@ module _ {A : Type 0} (test : A → Bool) where
           | inr before ↦ failed_first (test x) (λ p. sym m.2 ∙ rises.later i middle x m.0 before at m.1 p)
         ];
       }
+
+  -- where the last member fails, all do
+  pub split_from : (xs : List A) (last n : ℕ) → Rises test xs → n ≡ length xs → last + 1 ≡ n → (b : Bool) → option_map test (slice_get xs last) ≡ Some b → b ≡ false → IsSplitAt test xs n
+  split_from xs last n rises all next b e is =
+      subst (λ i. IsSplitBetween test xs i n) next (split_above xs 0 last n rises (unsplit xs n all) (omega arith) (omega arith) b e is)
 
   pub position_of_split : (xs : List A) (place : ℕ) → IsSplitAt test xs place → place ≡ position_or_len test xs
   position_of_split [] place s = omega (arith, s.within)

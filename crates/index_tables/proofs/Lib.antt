@@ -4,3 +4,7 @@ pub mod TableRows
 pub mod Halving
 pub mod Meeting
 pub mod Firsts
+pub mod RecordRows
+pub mod Unique
+pub mod UniqueLaws
+pub mod Laws

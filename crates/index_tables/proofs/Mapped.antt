@@ -1,15 +1,17 @@
 -- Lists of entries, seen through a function of their keys.
 --     sorted_mapped, find_mapped, put_mapped, without_mapped
 --     below_at            a key below all of a list is below each
-use Rattle.std.proofs.Common.{◌≡◌, ℕ, zero, suc, true, false, List, [], ◌∷◌, refl, sym, ap, ◌∙◌, Some, map}
-use Rattle.std.specs.Prelude.{cond, not, ◌&&◌, T, slice_get}
+--     find_removed        what is found once an entry is taken out
+use Rattle.std.proofs.Common.{◌≡◌, ℕ, zero, suc, true, false, List, [], ◌∷◌, refl, sym, ap, ◌∙◌, Some, None, map}
+use Rattle.std.specs.Prelude.{cond, not, ◌&&◌, T, slice_get, remove}
 use Rattle.std.specs.declared.cmp.Ordering.{Ordering}
 use Rattle.std.specs.declared.cmp.Ordering.TheVariants.{Less, Equal, Greater}
 use Rattle.std.specs.Ordering.{is_lt, is_eq, eq_by_cmp, on}
+use Rattle.std.specs.Cmp.{IsTotalOrder}
 use Rattle.std.specs.FinMap.{find, put, is_sorted}
 use Rattle.std.specs.FinMap.Entries.{below_all, by_order}
 use Rattle.sorted_table.specs.Tables.{without}
-use Rattle.sorted_table.proofs.Rising.{is_less, first, second}
+use Rattle.sorted_table.proofs.Laws.{is_less, first, second}
 
 module _ {K J X : Type 0} (f : K → J) (R : J → J → Ordering) where
   abbrev pub entry : K × X → J × X
@@ -49,3 +51,27 @@ module _ {K X : Type 0} (R : K → K → Ordering) where
   below_at x [] i d h e = cc
   below_at x (c ∷ es) zero d h e = let same : c ≡ d = cc in ap (λ y. R x y.0) (sym same) ∙ is_less _ (first _ _ h)
   below_at x (c ∷ es) (suc i) d h e = below_at x es i d (second _ _ h) e
+
+  module _ (o : IsTotalOrder R) where
+    -- a key that ties with one below all of a list is not found there
+    missed : (x q : K) (es : List (K × X)) → R q x ≡ Equal → T (below_all R x es) → find R q es ≡ None
+    missed x q [] e h = refl
+    missed x q (d ∷ es) e h = ap (λ r. cond (is_eq r) (Some d.1) (find R q es)) (o.congr q x d.0 e ∙ is_less _ (first _ _ h)) ∙ missed x q es e (second _ _ h)
+
+    -- what is found once an entry is taken out
+    pub find_removed : (q : K) (es : List (K × X)) (i : ℕ) (d : K × X) → T (is_sorted R es) → slice_get es i ≡ Some d → find R q (remove es i) ≡ cond (eq_by_cmp R q d.0) None (find R q es)
+    find_removed q [] i d h e = cc
+    find_removed q (c ∷ es) zero d h e =
+        let same : c ≡ d = cc in
+        elim (R q c.0) as (λ r. R q c.0 ≡ r → find R q es ≡ cond (is_eq r) None (cond (is_eq r) (Some c.1) (find R q es))) [
+          | Less ↦ λ p. refl
+          | Equal ↦ λ p. missed c.0 q es p (first _ _ h)
+          | Greater ↦ λ p. refl
+        ] refl ∙ ap (λ y. cond (eq_by_cmp R q y.0) None (find R q (c ∷ es))) same
+    find_removed q (c ∷ es) (suc i) d h e =
+        let rest = find_removed q es i d (second _ _ h) e in
+        elim (R q c.0) as (λ r. R q c.0 ≡ r → cond (is_eq r) (Some c.1) (find R q (remove es i)) ≡ cond (eq_by_cmp R q d.0) None (cond (is_eq r) (Some c.1) (find R q es))) [
+          | Less ↦ λ p. rest
+          | Equal ↦ λ p. sym (ap (λ r. cond (is_eq r) None (Some c.1)) (o.congr q c.0 d.0 p ∙ below_at c.0 es i d (first _ _ h) e))
+          | Greater ↦ λ p. rest
+        ] refl

@@ -1,7 +1,7 @@
 -- Bounds and the rows of a table, which stand in order.
 --     rows_rise           what stands behind a row that meets a lower bound meets it too
 --     had, not_had        whether a row has a key, by the first row whose key is not below it
-use Rattle.std.proofs.Common.{◌≡◌, ℕ, zero, suc, ◌+◌, ◌*◌, ◌<◌, ◌≤◌, Bool, true, false, List, [], ◌∷◌, refl, sym, ap, ◌∙◌, Option, Some, None, map, length, arith}
+use Rattle.std.proofs.Common.{◌≡◌, ℕ, zero, suc, ◌<◌, Bool, true, false, List, [], ◌∷◌, refl, sym, ap, ◌∙◌, Option, Some, None, arith}
 use Rattle.std.specs.Prelude.{slice_get, ◌||◌}
 use Rattle.std.specs.declared.cmp.Ordering.{Ordering}
 use Rattle.std.specs.declared.cmp.Ordering.TheVariants.{Less, Equal, Greater}
@@ -9,19 +9,15 @@ use Rattle.std.specs.Ordering.{is_eq, eq_by_cmp, ordering_then}
 use Rattle.std.specs.List.{list_any}
 use Rattle.std.proofs.lemmas.Option.{slice_get_within}
 use Rattle.clone_values.specs.KeyTree.{KeyTree}
+use Rattle.std.specs.FinMap as finite
 use Rattle.key_order.specs.KeyOrder.{key_cmp}
-use Rattle.key_order.proofs.KeyLaws.{key_cmp_total, key_cmp_same}
+use Rattle.key_order.proofs.Laws.{key_cmp_total, key_cmp_same}
 use Rattle.idb_keys.specs.KeyRange.{Bound, bound_at, admits}
-use Rattle.index_tables.specs.Rows.{RowTree, RowSet, row_cmp, row_meets, rows_of, count_of}
-use Rattle.index_tables.specs.View.{row_entry, row_set, rows_in}
+use Rattle.index_tables.specs.Rows.{RowTree, RowSet, row_meets, rows_of}
 use Rattle.index_tables.specs.Halves.{IsSplitAt}
 use Rattle.index_tables.proofs.RowLaws.{rising_keys}
 use Rattle.index_tables.proofs.Halving.{Rises}
-use Rattle.index_tables.proofs.TableRows.{Entries, InOrder, rows_in_order, first_of_each, past_end, rows_of_set, count_of_set}
-
--- ---- the rows of a table rise
-rising : (es : Entries) (i j : ℕ) (r s : RowTree) → InOrder es → i < j → slice_get (rows_in es) i ≡ Some r → slice_get (rows_in es) j ≡ Some s → row_cmp r s ≡ Less
-rising es i j r s h lt a b = rising_keys (map row_entry es) (rows_in_order es h) i j r s lt (rw (first_of_each es) a) (rw (first_of_each es) b)
+use Rattle.index_tables.proofs.TableRows.{past_end}
 
 -- ---- a lower bound is met by what stands behind
 admitted : (is_open : Bool) (o : Ordering) → o ≡ Less → admits is_open o ≡ true
@@ -38,22 +34,19 @@ meets_on (Some bound) Less p r s e lt met = above_met bound.is_open (key_cmp bou
 meets_on (Some bound) Equal p r s e lt met = ap (λ k. row_meets (Some bound) (k, s.1)) (sym (key_cmp_same r.0 s.0 e)) ∙ met
 meets_on (Some bound) Greater p r s e lt met = cc
 
-pub rows_rise : (lower : Option Bound) (es : Entries) → InOrder es → Rises (row_meets lower) (rows_in es)
-rows_rise lower es h = record { later = λ i j r s lt a b met. meets_on lower (key_cmp r.0 s.0) (key_cmp r.1 s.1) r s refl (rising es i j r s h lt a b) met }
+pub rows_rise : (lower : Option Bound) (s : RowSet) → Rises (row_meets lower) (rows_of s)
+rows_rise lower s = record {
+  later = λ i j p q lt a b met. meets_on lower (key_cmp p.0 q.0) (key_cmp p.1 q.1) p q refl (rising_keys (finite.entries s) (finite.entries_sorted s) i j p q lt a b) met;
+}
 
--- ---- the place of the first row that meets it
-each_meets_none : (rows : List RowTree) → IsSplitAt (row_meets None) rows 0
-each_meets_none rows = record { ordered = omega arith; within = omega arith; before = λ i r lt at. absurd (omega arith); behind = λ i r le at. refl }
-
-pub split_shown : (asked lower : Option Bound) (es : Entries) (rows : RowSet) (place : ℕ) → asked ≡ lower → row_set es ≡ rows → InOrder es → IsSplitAt (row_meets lower) (rows_in es) place
-    → IsSplitAt (row_meets asked) (rows_of rows) place
-split_shown asked lower es rows place ask seen h s = rw (ask, ← seen, rows_of_set es h) s
-
-pub cost_shown : (es : Entries) (rows : RowSet) (power : ℕ) → row_set es ≡ rows → InOrder es → power ≤ 2 * length es + 1 → power ≤ 2 * count_of rows + 1
-cost_shown es rows power seen h cost = rw (← seen, count_of_set es h) cost
-
-pub unbounded_shown : (asked : Option Bound) (rows : RowSet) → asked ≡ None → IsSplitAt (row_meets asked) (rows_of rows) 0
-unbounded_shown asked rows ask = rw ask (each_meets_none (rows_of rows))
+-- where there is no bound, each row meets it
+pub each_meets_none : (rows : List RowTree) → IsSplitAt (row_meets None) rows 0
+each_meets_none rows = record {
+  ordered = omega arith;
+  within = omega arith;
+  before = λ i x lt at. absurd (omega arith);
+  behind = λ i x le at. refl;
+}
 
 -- ---- whether a row has a key
 either : (a b : Bool) → b ≡ true → (a || b) ≡ true
@@ -73,7 +66,7 @@ sides (suc i) zero = more_than (omega arith)
 sides (suc i) (suc j) = elim (sides i j) [ less_than h ↦ less_than (omega arith) | same e ↦ same (ap suc e) | more_than h ↦ more_than (omega arith) ]
 
 module _ {A : Type 0} (test : A → Bool) where
-  any_at : (xs : List A) (i : ℕ) (x : A) → slice_get xs i ≡ Some x → test x ≡ true → list_any test xs ≡ true
+  pub any_at : (xs : List A) (i : ℕ) (x : A) → slice_get xs i ≡ Some x → test x ≡ true → list_any test xs ≡ true
   any_at [] i x at e = cc
   any_at (y ∷ xs) zero x at e = let same : y ≡ x = cc in ap (λ b. b || list_any test xs) (ap test same ∙ e)
   any_at (y ∷ xs) (suc i) x at e = either (test y) (list_any test xs) (any_at xs i x at e)

@@ -2,7 +2,7 @@
 --     same_rows, has_no_row, has_with_row, has_without_row, has_with_rows, has_without_rows, has_row_among
 --     removal_undoes, addition_undoes
 --     counted, rising, key_of_row, row_of_key
---     one_is_new, first_is_new, rest_is_new       of rows that are new, and come one by one
+--     with_present, comes_again                   a row that is there when it comes;  one that comes again
 use Rattle.std.proofs.Common.{◌≡◌, ℕ, zero, suc, ◌<◌, Bool, true, false, List, [], ◌∷◌, refl, sym, ap, ◌∙◌, Option, Some, None, map, length, arith}
 use Rattle.std.specs.Prelude.{cond, not, ◌&&◌, ◌||◌, T, is_some, slice_get}
 use Rattle.std.specs.declared.cmp.Ordering.TheVariants.{Less}
@@ -17,9 +17,9 @@ use Rattle.std.proofs.lemmas.Cmp.{tied_itself}
 use Rattle.std.specs.FinMap as finite
 use Rattle.clone_values.specs.KeyTree.{KeyTree}
 use Rattle.key_order.specs.KeyOrder.{key_cmp}
-use Rattle.key_order.proofs.KeyLaws.{key_cmp_same, then_equal}
-use Rattle.sorted_table.proofs.Rising.{is_less, first, second}
-use Rattle.index_tables.specs.Rows.{RowTree, RowSet, row_cmp, is_row, no_rows, has_row, with_row, without_row, rows_of, count_of, has_key, among, IsOnce, AreNew, ArePresent, with_rows, without_rows}
+use Rattle.key_order.proofs.Laws.{key_cmp_same, then_equal}
+use Rattle.sorted_table.proofs.Laws.{is_less, first, second}
+use Rattle.index_tables.specs.Rows.{RowTree, RowSet, row_cmp, is_row, no_rows, has_row, with_row, without_row, rows_of, count_of, has_key, among, AreNew, ArePresent, with_rows, without_rows}
 use Rattle.index_tables.specs.Orders.{row_cmp_total, row_cmp_same}
 
 -- what an entry without a value says is whether it is there
@@ -140,21 +140,32 @@ key_of_row s row e = key_among (rows_of s) row (sym (has_row_among s row) ∙ e)
 pub row_of_key : (s : RowSet) (key : KeyTree) → has_key s key ≡ true → (primary : KeyTree) × (has_row s (key, primary) ≡ true)
 row_of_key s key e = let found = row_with_key (rows_of s) key e in (found.0, has_row_among s (key, found.0) ∙ found.1)
 
--- ---- rows that are new, one by one
-pub first_is_new : (s : RowSet) (row : RowTree) (rows : List RowTree) → AreNew s (row ∷ rows) → has_row s row ≡ false
-first_is_new s row rows new = new row (ap (λ b. b || among rows row) (itself row))
+-- ---- rows put in that may be there
+or_left : (a b : Bool) → a ≡ true → (a || b) ≡ true
+or_left true b e = refl
+or_left false b e = cc
 
-neither : (a b : Bool) → (a ≡ true → false ≡ true) → b ≡ false → (a || b) ≡ false
-neither true b f e = sym (f refl)
-neither false b f e = e
+either_way : (a b : Bool) → (a ≡ true → b ≡ true) → (a || b) ≡ b
+either_way true b f = sym (f refl)
+either_way false b f = refl
 
-pub rest_is_new : (s : RowSet) (row : RowTree) (rows : List RowTree) → AreNew s (row ∷ rows) → IsOnce (row ∷ rows) → AreNew (with_row s row) rows
-rest_is_new s row rows new once q one = has_with_row s row q
-    ∙ neither (is_row q row) (has_row s q) (λ e. sym once.0 ∙ ap (λ r. among rows r) (sym (same_row q row e)) ∙ one) (new q (or_right (is_row q row) (among rows q) one))
+-- a row that is there changes nothing
+pub with_present : (s : RowSet) (row : RowTree) → has_row s row ≡ true → s ≡ with_row s row
+with_present s row there = sym (same_rows _ _ (λ q. has_with_row s row q
+    ∙ either_way (is_row q row) (has_row s q) (λ e. ap (λ r. has_row s r) (same_row q row e) ∙ there)))
 
-or_left : (a : Bool) → (a || false) ≡ true → a ≡ true
-or_left true e = refl
-or_left false e = e
+outweighs : (a b c d : Bool) → (d ≡ true → a ≡ true) → (a || (not b && c)) ≡ (a || (not b && (not d && c)))
+outweighs true b c d f = refl
+outweighs false b c true f = let never : false ≡ true = f refl in cc
+outweighs false b c false f = refl
 
-pub one_is_new : (s : RowSet) (row : RowTree) → has_row s row ≡ false → AreNew s (row ∷ [])
-one_is_new s row e q one = ap (λ r. has_row s r) (same_row q row (or_left (is_row q row) one)) ∙ e
+-- before rows come, one of them needn't go
+pub comes_again : (s : RowSet) (row : RowTree) (rows coming : List RowTree) → among coming row ≡ true
+    → with_rows (without_rows s rows) coming ≡ with_rows (without_rows (without_row s row) rows) coming
+comes_again s row rows coming again = same_rows _ _ (λ q.
+    has_with_rows (without_rows s rows) coming q
+    ∙ ap (λ b. among coming q || b) (has_without_rows s rows q)
+    ∙ outweighs (among coming q) (among rows q) (has_row s q) (is_row q row) (λ e. ap (λ r. among coming r) (same_row q row e) ∙ again)
+    ∙ ap (λ b. among coming q || (not (among rows q) && b)) (sym (has_without_row s row q))
+    ∙ ap (λ b. among coming q || b) (sym (has_without_rows (without_row s row) rows q))
+    ∙ sym (has_with_rows (without_rows (without_row s row) rows) coming q))

@@ -1,25 +1,25 @@
 -- From the entries of a table to the set of its rows.
---     rows_of_set, count_of_set       the rows of the set, and how many
+--     rows_of_set, seen_at, count_of_set      the rows of the set, one of them, and how many
 --     set_of_none                     no entry, no row
 --     is_lacked                       a row that is not in the set has no entry
 --     has_answered                    whether a row is in the set, by the answer of `place_of`
 --     set_of_put, set_of_removed, set_without_absent       what `put`, `remove` and leaving as it is make of the set
 use Rattle.std.proofs.Common.{◌≡◌, ℕ, zero, suc, ◌+◌, ◌≤◌, Bool, true, false, List, [], ◌∷◌, refl, sym, ap, subst, ◌∙◌, Option, Some, None, map, length, take, add-one, arith}
-use Rattle.std.proofs.lemmas.List.{length-map}
-use Rattle.std.specs.Prelude.{cond, not, ◌&&◌, T, is_some, slice_get, remove, Result, Ok, Err, is_ok, IfOk, IfErr}
-use Rattle.std.specs.Ordering.{is_eq}
+use Rattle.std.proofs.lemmas.List.{length-map, length-take-le}
+use Rattle.std.proofs.lemmas.Option.{slice_get_within, slice_get-map}
+use Rattle.std.specs.Prelude.{not, ◌&&◌, T, is_some, slice_get, option_map, remove, Result, Ok, Err, is_ok, IfOk, IfErr}
 use Rattle.std.specs.FinMap as finite
 use Rattle.std.specs.FinMap.{find, put, is_sorted}
 use Rattle.std.specs.FinMap.Entries.{is_sorted-put, by_order}
 use Rattle.sorted_table.specs.Tables.{HasKeyAt, BelongsAt, without}
-use Rattle.sorted_table.proofs.Rising.{first, second, sorted_remove, swapped_less}
-use Rattle.sorted_table.proofs.Places.{absent, found, removed}
-use Rattle.sorted_table.proofs.Maps.{entries_remove}
+use Rattle.sorted_table.proofs.Laws.{first, second, sorted_remove, swapped_less}
+use Rattle.sorted_table.proofs.Laws.{absent, found, removed, appended, stands}
+use Rattle.sorted_table.proofs.Laws.{entries_remove}
 use Rattle.index_tables.specs.declared.rows.Row.{Row}
-use Rattle.index_tables.specs.Rows.{RowTree, RowSet, row_cmp, is_row, no_rows, has_row, with_row, without_row, with_rows, rows_of, count_of, AreNew, IsOnce}
+use Rattle.index_tables.specs.Rows.{RowTree, row_cmp, is_row, no_rows, has_row, with_row, without_row, rows_of, count_of}
 use Rattle.index_tables.specs.View.{row_of, row_entry, row_set, rows_in}
 use Rattle.index_tables.specs.Orders.{by_row_order, row_cmp_total, row_cmp_same, by_row_order_total}
-use Rattle.index_tables.proofs.RowLaws.{same_rows, has_without_row, same_row, first_is_new, rest_is_new}
+use Rattle.index_tables.proofs.RowLaws.{same_rows, has_without_row, same_row, with_present}
 use Rattle.index_tables.proofs.Mapped.{sorted_mapped, find_mapped, put_mapped, without_mapped, below_at}
 
 abbrev pub Entries : Type 0
@@ -40,6 +40,10 @@ first_of_each (e ∷ es) = ap (λ r. row_of e.0 ∷ r) (first_of_each es)
 
 pub rows_of_set : (es : Entries) → InOrder es → rows_of (row_set es) ≡ rows_in es
 rows_of_set es h = ap (λ fs. map (λ (e : RowTree × Unit {0}). e.0) fs) (entries_of_set es h) ∙ first_of_each es
+
+-- a row by its place
+pub seen_at : (es : Entries) (i : ℕ) (o : Option (Row × Unit {0})) → InOrder es → o ≡ slice_get es i → option_map (λ e. row_of e.0) o ≡ slice_get (rows_of (row_set es)) i
+seen_at es i o h at = ap (option_map (λ e. row_of e.0)) at ∙ sym (slice_get-map (λ e. row_of e.0) es i) ∙ ap (λ rows. slice_get rows i) (sym (rows_of_set es h))
 
 pub count_of_set : (es : Entries) → InOrder es → count_of (row_set es) ≡ length es
 count_of_set es h = finite.len-entries (row_set es) ∙ ap length (entries_of_set es h) ∙ length-map es row_entry
@@ -80,6 +84,9 @@ pub has_answered : (es : Entries) (row : Row) (r : Result ℕ ℕ) → InOrder e
 has_answered es row (Ok place) h has belongs = sym (ap is_some (found_in_set es row h ∙ found by_row_order_total es place row has))
 has_answered es row (Err place) h has belongs = sym (has_absent es place row h belongs)
 
+pub set_with_present : (es : Entries) (place : ℕ) (row : Row) → InOrder es → HasKeyAt by_row_order es place row → row_set es ≡ with_row (row_set es) (row_of row)
+set_with_present es place row h at = with_present (row_set es) (row_of row) (ap is_some (found_in_set es row h ∙ found by_row_order_total es place row at))
+
 kept : (a b : Bool) → (a ≡ true → b ≡ false) → (not a && b) ≡ b
 kept true b f = sym (f refl)
 kept false b f = refl
@@ -89,13 +96,6 @@ set_without_absent es place row h b = sym (same_rows _ _ (λ q. has_without_row 
     ∙ kept (is_row q (row_of row)) (has_row (row_set es) q) (λ e. ap (λ r. has_row (row_set es) r) (same_row q (row_of row) e) ∙ has_absent es place row h b)))
 
 -- ---- the entries of a table put one by one into another, in order
-taken_lack : (es : Entries) (i : ℕ) (d : Row × Unit {0}) → InOrder es → slice_get es i ≡ Some d → find by_row_order d.0 (take i es) ≡ None
-taken_lack [] i d h at = cc
-taken_lack (e ∷ es) zero d h at = refl
-taken_lack (e ∷ es) (suc i) d h at =
-    ap (λ r. cond (is_eq r) (Some e.1) (find by_row_order d.0 (take i es))) (swapped_less by_row_order_total e.0 d.0 (below_at by_row_order e.0 es i d (first _ _ h) at))
-    ∙ taken_lack es i d (second _ _ h) at
-
 taken_put : (es : Entries) (i : ℕ) (d : Row × Unit {0}) → InOrder es → slice_get es i ≡ Some d → put by_row_order d.0 d.1 (take i es) ≡ take (suc i) es
 taken_put [] i d h at = cc
 taken_put (e ∷ es) zero d h at = let same : e ≡ d = cc in ap (λ x. x ∷ []) (sym same)
@@ -103,8 +103,11 @@ taken_put (e ∷ es) (suc i) d h at =
     ap (λ r. by_order r (d ∷ e ∷ take i es) ((e.0, d.1) ∷ take i es) (e ∷ put by_row_order d.0 d.1 (take i es))) (swapped_less by_row_order_total e.0 d.0 (below_at by_row_order e.0 es i d (first _ _ h) at))
     ∙ ap (λ r. e ∷ r) (taken_put es i d (second _ _ h) at)
 
-pub copy_is_lacked : (es copies : Entries) (i : ℕ) (row copy : Row) (u : Unit {0}) → InOrder es → Some (row, u) ≡ slice_get es i → copies ≡ take i es → copy ≡ row → find by_row_order copy copies ≡ None
-copy_is_lacked es copies i row copy u h at so same = rw (so, same) (taken_lack es i (row, u) h (sym at))
+pub copy_belongs : (es copies : Entries) (i : ℕ) (row copy : Row) (u : Unit {0}) → InOrder es → Some (row, u) ≡ slice_get es i → copies ≡ take i es → copy ≡ row → BelongsAt by_row_order copies i copy
+copy_belongs es copies i row copy u h at so same =
+    let all : length (take i es) ≡ i = length-take-le i es (omega (arith, slice_get_within es i (row, u) (sym at))) in
+    rw (so, same) (subst (λ n. BelongsAt by_row_order (take i es) n row) all
+    (appended by_row_order_total (take i es) row (stands by_row_order_total es i row u h (sym at)).before))
 
 pub copy_is_put : (es copies new : Entries) (i : ℕ) (row copy : Row) (u : Unit {0}) → InOrder es → Some (row, u) ≡ slice_get es i → copies ≡ take i es → copy ≡ row → new ≡ put by_row_order copy u copies → new ≡ take (i + 1) es
 copy_is_put es copies new i row copy u h at so same put = put ∙ rw (so, same, add-one) (taken_put es i (row, u) h (sym at))
@@ -113,30 +116,3 @@ pub past_end : {A : Type 0} (xs : List A) (i : ℕ) → None ≡ slice_get xs i 
 past_end [] i e = omega arith
 past_end (x ∷ xs) zero e = cc
 past_end (x ∷ xs) (suc i) e = omega (arith, past_end xs i e)
-
--- ---- rows added one by one: those that are left are new and have room, and make the whole
-pub record IsAdding (left : List Row) (s : RowSet) (spare : ℕ) (rows : List RowTree) (before : RowSet) (spare_before : ℕ) : Type 0 where
-  pub room : length left ≤ spare
-  pub is_new : AreNew s (map row_of left)
-  pub once : IsOnce (map row_of left)
-  pub whole : with_rows s (map row_of left) ≡ with_rows before rows
-  pub cost : spare_before + length left ≤ spare + length rows
-
-pub next_is_new : (items left : List Row) (row : Row) (s : RowSet) (spare : ℕ) (rows : List RowTree) (before : RowSet) (spare_before : ℕ)
-    → items ≡ row ∷ left → IsAdding items s spare rows before spare_before → has_row s (row_of row) ≡ false
-next_is_new items left row s spare rows before spare_before e a = first_is_new s (row_of row) (map row_of left) (rw e at a.is_new)
-
-pub adding_more : (items left : List Row) (row : Row) (s more : RowSet) (spare spare_more : ℕ) (rows : List RowTree) (before : RowSet) (spare_before : ℕ)
-    → items ≡ row ∷ left → IsAdding items s spare rows before spare_before → more ≡ with_row s (row_of row) → spare ≤ spare_more + 1 → IsAdding left more spare_more rows before spare_before
-adding_more items left row s more spare spare_more rows before spare_before e a new paid =
-    let n : length items ≡ length left + 1 = ap length e ∙ omega arith in
-    let new_ones : AreNew s (row_of row ∷ map row_of left) = rw e at a.is_new in
-    let single : IsOnce (row_of row ∷ map row_of left) = rw e at a.once in
-    let all : with_rows s (row_of row ∷ map row_of left) ≡ with_rows before rows = rw e at a.whole in
-    record {
-      room = omega (arith, a.room);
-      is_new = rw new (rest_is_new s (row_of row) (map row_of left) new_ones single);
-      once = single.1;
-      whole = rw new all;
-      cost = omega (arith, a.cost);
-    }

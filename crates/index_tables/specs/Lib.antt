@@ -2,3 +2,5 @@ pub mod Rows
 pub mod View
 pub mod Orders
 pub mod Halves
+pub mod RecordRows
+pub mod Unique

@@ -5,7 +5,7 @@ use Rattle.std.specs.Cmp.{IsTotalOrder}
 use Rattle.std.specs.FinMap.{IsAntisymmetric}
 use Rattle.std.proofs.lemmas.Cmp.{on_total, then_total}
 use Rattle.key_order.specs.KeyOrder.{key_cmp}
-use Rattle.key_order.proofs.KeyLaws.{key_cmp_total, key_cmp_same, then_equal}
+use Rattle.key_order.proofs.Laws.{key_cmp_total, key_cmp_same, then_equal}
 use Rattle.sorted_table.specs.Orders.{by_key_order_same}
 use Rattle.index_tables.specs.declared.rows.Row.{Row}
 use Rattle.index_tables.specs.Rows.{RowTree, row_cmp}

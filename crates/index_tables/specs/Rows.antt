@@ -1,14 +1,14 @@
--- The rows of an index (Indexed Database API 3.0, 2.6): pairs of an index key and a primary key, by both in that order.
+-- The rows of an index (Indexed Database API 3.0, "index", its list of records): pairs of an index key and a primary key, by both in that order.
 --     RowTree               a row as plain data
 --     row_cmp, is_row       the order of rows, and whether two rows are one
 --     RowSet                a finite set of rows; no_rows, has_row, with_row, without_row, rows_of (in their order), count_of
 --     IndexRows             the rows of an index, and how many more can be added without memory
---     among, IsOnce         a row is one of a list;  no row stands twice in a list
+--     among                 a row is one of a list
 --     AreNew, ArePresent    no row of a list is in a set;  each is
 --     with_rows             a set and the rows of a list;  without_rows: a set without these
 --     has_key               a row of the set has this index key
 --     first_row             the place of the first row whose index key meets a lower bound
-use Rattle.std.specs.Prelude.{◌≡◌, ℕ, Bool, true, false, List, [], ◌∷◌, Option, ⊤, refl}
+use Rattle.std.specs.Prelude.{◌≡◌, ℕ, Bool, true, false, List, [], ◌∷◌, Option, refl}
 use Rattle.std.specs.Coded.{Coded, code_by, coded×, coded_ℕ}
 use Rattle.std.specs.List.{list_any, position_or_len}
 use Rattle.std.specs.declared.cmp.Ordering.{Ordering}
@@ -72,11 +72,6 @@ index_code = code_by (RowSet × ℕ) (coded× (set.code row_code) coded_ℕ) (λ
 -- the row is one of the list
 abbrev pub among : List RowTree → RowTree → Bool
 among rows row = list_any (is_row row) rows
-
--- no row stands twice in the list
-abbrev pub IsOnce : List RowTree → Type 0
-IsOnce [] = ⊤
-IsOnce (row ∷ rows) = (among rows row ≡ false) × IsOnce rows
 
 -- no row of the list is in the set
 abbrev pub AreNew : RowSet → List RowTree → Type 0

@@ -1,14 +1,15 @@
 // The table of an index; contracts see the set of its rows and how many more can be added without memory.
 ghost use Rattle.std.specs.Prelude.{◌≡◌, ◌+◌, ◌-◌, ◌*◌, ◌^◌, ◌≤◌, length, take, drop, slice_get, option_map, not, IfOk, IsOk, OnOk};
 ghost use Rattle.std.specs.List.{AllPass, position};
-ghost use Rattle.index_tables.specs.Rows.{no_rows, rows_of, count_of, has_row, AreNew, IsOnce, with_rows, without_rows, has_key, first_row, row_meets};
+ghost use Rattle.index_tables.specs.Rows.{no_rows, rows_of, count_of, has_row, with_rows, without_rows, has_key, first_row, row_meets};
 ghost use Rattle.index_tables.specs.View.{row_of, row_seen, bound_seen};
 
-use crate::changing::{add_all, copy_all, remove_all};
+use crate::changing::{add_all, copy_all, remove_all, replace_all};
 use crate::rows::{Row, Rows};
-use crate::searching::{first_key_had, first_meeting, has_row, row_at};
+use crate::searching::{count_in, find_first, first_from, first_key_had, has_row, row_at};
 use crate::tables::Tables;
-use clone_values::{Key, Keys, NoMemory};
+use clone_values::{Key, Keys};
+use idb_base::NoMemory;
 use sorted_table::{OrderedTable, Steps};
 use std::alloc::Global;
 use std::marker::Model;
@@ -47,15 +48,13 @@ impl<T: Tables> IndexTable<T> {
     pub fn len(&self) -> usize
         ensures { result ≡ count_of self.now.rows }
     {
-        self.table.len()
+        count_in(&self.table)
     }
 
     /// The row at this place of the order, counted from 0; `None` past the end.
     pub fn row(&self, place: usize) -> Option<&Row>
         ensures { option_map row_seen result ≡ slice_get (rows_of self.now.rows) place }
     {
-        // The table says that its rows stand in order.
-        self.table.len();
         row_at(&self.table, place)
     }
 
@@ -71,12 +70,12 @@ impl<T: Tables> IndexTable<T> {
         ensures { IfOk result (λ copy. copy.rows ≡ self.now.rows) }
     {
         let mut table = T::rows(alloc);
-        copy_all(alloc, &self.table, &mut table)?;
+        copy_all(&self.table, &mut table)?;
         Ok(IndexTable { table })
     }
 
     /// The place of the first of these keys that is the index key of a row: where the index is unique, the key that would
-    /// break it (2.6, "unique"). `None` where no row has one of them. It takes no memory.
+    /// break it ("unique"). `None` where no row has one of them. It takes no memory.
     pub fn would_break(&self, keys: &Keys) -> Option<usize>
         ensures { result ≡ position (has_key self.now.rows) keys.now }
     {
@@ -93,11 +92,9 @@ impl<T: Tables> IndexTable<T> {
         self.table.reserve(n)
     }
 
-    /// Adds these rows, in whatever order they come. It takes no memory.
+    /// Adds these rows, in whatever order they come; one that is there is passed over. It takes no memory.
     pub fn add_rows(&mut self, rows: Rows)
-        requires room { length rows ≤ self.old.spare }
-        requires absent { AreNew self.old.rows rows }
-        requires once { IsOnce rows }
+        requires { length rows ≤ self.old.spare }
         ensures rows { self.new.rows ≡ with_rows self.old.rows rows }
         ensures spare { self.old.spare ≤ self.new.spare + length rows }
     {
@@ -112,8 +109,18 @@ impl<T: Tables> IndexTable<T> {
         remove_all(&mut self.table, rows)
     }
 
+    /// Removes the old rows and adds the new ones. Rows of both lists mostly stay where they are. It takes no memory.
+    pub fn replace_rows(&mut self, old: &Rows, new: Rows)
+        requires { length new ≤ self.old.spare }
+        ensures rows { self.new.rows ≡ with_rows (without_rows self.old.rows old.now) new }
+        ensures spare { self.old.spare ≤ self.new.spare + length new }
+    {
+        replace_all(&mut self.table, old, new)
+    }
+
     /// The place of the first row whose index key meets the lower bound, found by halving; where none does, the number of
-    /// the rows; 0 where there is no bound. The bound is open if its own key is left out (2.9).
+    /// the rows; 0 where there is no bound. The bound is open if its own key is left out ("key range"). The first comparison
+    /// is with the last row.
     pub fn first_from<L: Ledger>(
         &self,
         lower: Option<&Key>,
@@ -123,13 +130,22 @@ impl<T: Tables> IndexTable<T> {
         ensures place { result ≡ first_row (bound_seen lower.entry lower_open) self.now.rows }
         ensures before { AllPass (λ row. not (row_meets (bound_seen lower.entry lower_open) row))
             (take result (rows_of self.now.rows)) }
-        ensures behind { AllPass (row_meets (bound_seen lower.entry lower_open)) (drop result (rows_of self.now.rows)) }
+        ensures behind { AllPass (row_meets (bound_seen lower.entry lower_open))
+            (drop result (rows_of self.now.rows)) }
         ensures counted { steps.old ≤ steps.new }
-        ensures cost { 2 ^ (steps.new - steps.old) ≤ 2 * count_of self.now.rows + 1 }
+        ensures cost { 2 ^ (steps.new - steps.old) ≤ 4 * count_of self.now.rows + 2 }
     {
-        match lower {
-            Some(key) => first_meeting(&self.table, key, lower_open, steps),
-            None => 0,
-        }
+        first_from(&self.table, lower, lower_open, steps)
+    }
+
+    /// The same for a caller that counts no comparisons.
+    pub fn find_first(&self, lower: Option<&Key>, lower_open: bool) -> usize
+        ensures place { result ≡ first_row (bound_seen lower.entry lower_open) self.now.rows }
+        ensures before { AllPass (λ row. not (row_meets (bound_seen lower.entry lower_open) row))
+            (take result (rows_of self.now.rows)) }
+        ensures behind { AllPass (row_meets (bound_seen lower.entry lower_open))
+            (drop result (rows_of self.now.rows)) }
+    {
+        find_first(&self.table, lower, lower_open)
     }
 }

@@ -1,18 +1,19 @@
 // Rows and their list. Contracts see a row as its two key trees, and a list as the list of these.
 ghost use Rattle.std.specs.Prelude.{◌≡◌, ◌≤◌, [], ◌∷◌, ◌++◌, length, map, slice_get, option_map, IfOk, IfSome, IfNone, OnOk, OnErr};
 ghost use Rattle.std.specs.Option.{option_copied};
-ghost use Rattle.clone_values.specs.Limits.{HasRoom, StandsAt};
+ghost use Rattle.idb_base.specs.Lists.{StandsAt};
 ghost use Rattle.index_tables.specs.View.{row_of};
 ghost use Rattle.index_tables.specs.Orders.{by_row_order, by_row_order_total, by_row_order_same};
 
-use clone_values::{Key, NoMemory};
+use clone_values::Key;
+use idb_base::NoMemory;
 use key_order::compare;
 use sorted_table::Ordered;
-use std::alloc::Global;
+use std::alloc::{AllocError, Global};
 use std::cmp::Ordering;
 use std::marker::Model;
 
-/// A row of an index (Indexed Database API 3.0, 2.6, "list of records").
+/// A row of an index (Indexed Database API 3.0, "index", its list of records).
 #[derive(Drop)]
 pub struct Row {
     /// The index key.
@@ -21,14 +22,13 @@ pub struct Row {
     pub primary: Key,
 }
 
-impl Row {
-    /// An equal row.
-    pub fn copy(&self, alloc: Global) -> Result<Row, NoMemory>
-        ensures { IfOk result (λ r. r ≡ self.now) }
-    {
+impl Clone for Row {
+    ghost is_clone = { λ x y. y ≡ x };
+
+    fn clone(&self) -> Result<Row, AllocError> {
         Ok(Row {
-            key: self.key.copy(alloc)?,
-            primary: self.primary.copy(alloc)?,
+            key: self.key.clone()?,
+            primary: self.primary.clone()?,
         })
     }
 }
@@ -96,7 +96,6 @@ impl Rows {
 
     /// Puts a row at the end.
     pub fn push(&mut self, item: Row) -> Result<(), NoMemory>
-        requires { HasRoom self.old }
         ensures stored { OnOk result (self.new ≡ self.old ++ row_of item ∷ []) }
         ensures unchanged { OnErr result (self.new ≡ self.old) }
     {
@@ -122,12 +121,8 @@ impl Rows {
     pub fn copy(&self, alloc: Global) -> Result<Rows, NoMemory>
         ensures { IfOk result (λ r. r ≡ self.now) }
     {
-        let mut copies = Rows::new(alloc);
-        for place in 0..self.len() {
-            if let Some(row) = self.at(place) {
-                copies.rows.push(row.copy(alloc)?)?;
-            }
-        }
-        Ok(copies)
+        Ok(Rows {
+            rows: Vec::from_clones(alloc, self.rows.as_slice())?,
+        })
     }
 }

@@ -2,12 +2,10 @@
 ghost use Rattle.std.specs.Prelude.{◌≡◌, ◌+◌, ◌-◌, ◌*◌, ◌^◌, ◌<◌, ◌≤◌, Some, length, slice_get, option_map};
 ghost use Rattle.std.specs.List.{position};
 ghost use Rattle.clone_values.specs.View.{key_tree_of};
-ghost use Rattle.sorted_table.specs.Tables.{IsSorted};
 ghost use Rattle.idb_keys.specs.KeyRange.{bound_at};
-ghost use Rattle.index_tables.specs.Rows.{row_meets, has_row, has_key};
-ghost use Rattle.index_tables.specs.View.{row_of, row_seen, rows_in, row_set};
-ghost use Rattle.index_tables.specs.Orders.{by_row_order};
-ghost use Rattle.index_tables.specs.Halves.{IsSplitAt};
+ghost use Rattle.index_tables.specs.Rows.{rows_of, count_of, row_meets, has_row, has_key};
+ghost use Rattle.index_tables.specs.View.{row_of, row_seen, row_set, bound_seen};
+ghost use Rattle.index_tables.specs.Halves.{IsSplitAt, IsSplitBetween};
 
 use crate::rows::Row;
 use clone_values::{Key, Keys};
@@ -17,9 +15,17 @@ use std::cmp::Ordering;
 use std::marker::Brand;
 use std::sync::ledger::{Blank, Ledger};
 
+/// How many rows there are.
+pub(crate) fn count_in<R: OrderedTable<Row, ()>>(table: &R) -> usize
+    ensures value { result ≡ count_of (row_set (R.entries table.now)) }
+    ensures listed { result ≡ length (rows_of (row_set (R.entries table.now))) }
+{
+    table.len()
+}
+
 /// The row at this place, counted from 0; `None` past the end.
 pub(crate) fn row_at<R: OrderedTable<Row, ()>>(table: &R, place: usize) -> Option<&Row>
-    ensures { option_map row_seen result ≡ slice_get (rows_in (R.entries table.now)) place }
+    ensures { option_map row_seen result ≡ slice_get (rows_of (row_set (R.entries table.now))) place }
 {
     match table.nth(place) {
         Some((row, _)) => Some(row),
@@ -27,7 +33,7 @@ pub(crate) fn row_at<R: OrderedTable<Row, ()>>(table: &R, place: usize) -> Optio
     }
 }
 
-/// Whether the row at this place has a key that meets the bound, or is past the end; one comparison.
+/// Whether the row at this place has a key that meets the bound; one comparison.
 fn meets_at<R: OrderedTable<Row, ()>, L: Ledger>(
     table: &R,
     place: usize,
@@ -35,9 +41,9 @@ fn meets_at<R: OrderedTable<Row, ()>, L: Ledger>(
     is_open: bool,
     steps: &mut Steps<L>,
 ) -> bool
-    requires { place < length (R.entries table.now) }
+    requires { place < length (rows_of (row_set (R.entries table.now))) }
     ensures value { option_map (row_meets (Some (bound_at (key_tree_of lower.now) is_open)))
-        (slice_get (rows_in (R.entries table.now)) place) ≡ Some result }
+        (slice_get (rows_of (row_set (R.entries table.now))) place) ≡ Some result }
     ensures counted { steps.new ≡ steps.old + 1 }
 {
     steps.tick();
@@ -47,28 +53,56 @@ fn meets_at<R: OrderedTable<Row, ()>, L: Ledger>(
             Ordering::Equal => !is_open,
             Ordering::Greater => false,
         },
-        None => true,
+        None => unreachable!(),
     }
 }
 
-/// The place of the first row whose key meets the bound, or the number of the rows.
-pub(crate) fn first_meeting<R: OrderedTable<Row, ()>, L: Ledger>(
+/// The place of the first row whose key meets the bound, or the number of the rows; the first comparison is with the
+/// last row.
+fn first_meeting<R: OrderedTable<Row, ()>, L: Ledger>(
     table: &R,
     lower: &Key,
     is_open: bool,
     steps: &mut Steps<L>,
 ) -> usize
-    ensures split { IsSplitAt (row_meets (Some (bound_at (key_tree_of lower.now) is_open))) (rows_in (R.entries table.now)) result }
-    ensures sorted { IsSorted by_row_order (R.entries table.now) }
+    ensures split { IsSplitAt (row_meets (Some (bound_at (key_tree_of lower.now) is_open)))
+        (rows_of (row_set (R.entries table.now))) result }
     ensures counted { steps.old ≤ steps.new }
-    ensures cost { 2 ^ (steps.new - steps.old) ≤ 2 * length (R.entries table.now) + 1 }
+    ensures cost { 2 ^ (steps.new - steps.old) ≤ 4 * count_of (row_set (R.entries table.now)) + 2 }
+{
+    let count = count_in(table);
+    if count == 0 {
+        return 0;
+    }
+    let last = count - 1;
+    if meets_at(table, last, lower, is_open, steps) {
+        first_before(table, last, lower, is_open, steps)
+    } else {
+        count
+    }
+}
+
+/// The same where those from `high` on meet it.
+fn first_before<R: OrderedTable<Row, ()>, L: Ledger>(
+    table: &R,
+    high: usize,
+    lower: &Key,
+    is_open: bool,
+    steps: &mut Steps<L>,
+) -> usize
+    requires { IsSplitBetween (row_meets (Some (bound_at (key_tree_of lower.now) is_open)))
+        (rows_of (row_set (R.entries table.now))) 0 high }
+    ensures split { IsSplitAt (row_meets (Some (bound_at (key_tree_of lower.now) is_open)))
+        (rows_of (row_set (R.entries table.now))) result }
+    ensures counted { steps.old ≤ steps.new }
+    ensures cost { 2 ^ (steps.new - steps.old) ≤ 2 * high + 1 }
 {
     let mut low = 0;
-    let mut high = table.len();
-    while low < high {
-        let middle = low + (high - low) / 2;
+    let mut end = high;
+    while low < end {
+        let middle = low + (end - low) / 2;
         if meets_at(table, middle, lower, is_open, steps) {
-            high = middle;
+            end = middle;
         } else {
             low = middle + 1;
         }
@@ -76,22 +110,57 @@ pub(crate) fn first_meeting<R: OrderedTable<Row, ()>, L: Ledger>(
     low
 }
 
+/// The place of the first row whose key meets the bound, if there is one.
+pub(crate) fn first_from<R: OrderedTable<Row, ()>, L: Ledger>(
+    table: &R,
+    lower: Option<&Key>,
+    is_open: bool,
+    steps: &mut Steps<L>,
+) -> usize
+    ensures split { IsSplitAt (row_meets (bound_seen lower.entry is_open))
+        (rows_of (row_set (R.entries table.now))) result }
+    ensures counted { steps.old ≤ steps.new }
+    ensures cost { 2 ^ (steps.new - steps.old) ≤ 4 * count_of (row_set (R.entries table.now)) + 2 }
+{
+    match lower {
+        Some(key) => first_meeting(table, key, is_open, steps),
+        None => 0,
+    }
+}
+
+/// The same; its comparisons are not told.
+pub(crate) fn find_first<R: OrderedTable<Row, ()>>(
+    table: &R,
+    lower: Option<&Key>,
+    is_open: bool,
+) -> usize
+    ensures { IsSplitAt (row_meets (bound_seen lower.entry is_open)) (rows_of (row_set
+        (R.entries table.now))) result }
+{
+    first_by::<R, Brand>(table, lower, is_open, Blank::new(1))
+}
+
+fn first_by<R: OrderedTable<Row, ()>, L: Ledger>(
+    table: &R,
+    lower: Option<&Key>,
+    is_open: bool,
+    blank: Blank,
+) -> usize
+    requires name { blank.name ≡ L.name }
+    requires parts { blank.parts ≡ L.parts }
+    requires some { 0 < blank.parts }
+    ensures { IsSplitAt (row_meets (bound_seen lower.entry is_open)) (rows_of (row_set
+        (R.entries table.now))) result }
+{
+    let mut steps: Steps<L> = Steps::new(blank);
+    first_from(table, lower, is_open, &mut steps)
+}
+
 /// Whether a row has this index key.
 fn has_key<R: OrderedTable<Row, ()>>(table: &R, key: &Key) -> bool
     ensures { result ≡ has_key (row_set (R.entries table.now)) (key_tree_of key.now) }
 {
-    has_key_by::<R, Brand>(table, key, Blank::new(1))
-}
-
-fn has_key_by<R: OrderedTable<Row, ()>, L: Ledger>(table: &R, key: &Key, blank: Blank) -> bool
-    requires name { blank.name ≡ L.name }
-    requires parts { blank.parts ≡ L.parts }
-    requires some { 0 < blank.parts }
-    ensures { result ≡ has_key (row_set (R.entries table.now)) (key_tree_of key.now) }
-{
-    let mut steps: Steps<L> = Steps::new(blank);
-    let place = first_meeting(table, key, false, &mut steps);
-    match row_at(table, place) {
+    match row_at(table, find_first(table, Some(key), false)) {
         Some(row) => compare(key, &row.key).is_eq(),
         None => false,
     }

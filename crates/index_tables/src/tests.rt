@@ -1,29 +1,13 @@
 ghost use Rattle.std.specs.Prelude.{◌≡◌, ◌<◌};
 
 use super::*;
-use clone_values::{Key, Keys, NoMemory, Text, Value};
-use sorted_table::{FlatTable, OrderedTable, Steps};
+use clone_values::{Key, Keys, Text};
+use idb_base::NoMemory;
+use sorted_table::{OrderedTable, Steps};
 use std::alloc::Global;
 use std::marker::Brand;
 use std::sync::ledger::{Blank, Ledger};
 use std::test::Fail;
-
-/// Tables of one run each.
-struct Flat;
-
-impl Tables for Flat {
-    type Records = FlatTable<Key, Value>;
-
-    type Rows = FlatTable<Row, ()>;
-
-    fn records(alloc: Global) -> FlatTable<Key, Value> {
-        FlatTable::new(alloc)
-    }
-
-    fn rows(alloc: Global) -> FlatTable<Row, ()> {
-        FlatTable::new(alloc)
-    }
-}
 
 fn row(key: i64, primary: i64) -> Row {
     Row {
@@ -34,14 +18,35 @@ fn row(key: i64, primary: i64) -> Row {
 
 /// Adds the row if it is not there; whether it did.
 fn put<T: Tables>(alloc: Global, index: &mut IndexTable<T>, row: Row) -> Result<bool, NoMemory> {
-    if index.has(&row) {
-        return Ok(false);
-    }
+    let is_new = !index.has(&row);
     let mut rows = Rows::new(alloc);
     rows.push(row)?;
     index.reserve(1)?;
     index.add_rows(rows);
-    Ok(true)
+    Ok(is_new)
+}
+
+/// Puts these rows of one record in place of those.
+fn replace<T: Tables>(
+    alloc: Global,
+    index: &mut IndexTable<T>,
+    old: &[i64],
+    new: &[i64],
+) -> Result<(), NoMemory> {
+    let old = rows_of(alloc, old)?;
+    let new = rows_of(alloc, new)?;
+    index.reserve(new.len())?;
+    index.replace_rows(&old, new);
+    Ok(())
+}
+
+/// The rows of the record 5 with these index keys.
+fn rows_of(alloc: Global, keys: &[i64]) -> Result<Rows, NoMemory> {
+    let mut rows = Rows::new(alloc);
+    for key in keys {
+        rows.push(row(*key, 5))?;
+    }
+    Ok(rows)
 }
 
 /// Removes the row.
@@ -87,7 +92,7 @@ fn first_by<T: Tables, L: Ledger>(
 }
 
 /// Five rows of three index keys, added out of order.
-fn five_rows(alloc: Global) -> Result<IndexTable<Flat>, Fail> {
+fn five_rows(alloc: Global) -> Result<IndexTable<FlatTables>, Fail> {
     let mut index = IndexTable::new(alloc);
     for (key, primary) in [(20, 1), (10, 9), (20, 7), (30, 2), (10, 3), (20, 7)] {
         let _ = put(alloc, &mut index, row(key, primary))?;
@@ -95,7 +100,7 @@ fn five_rows(alloc: Global) -> Result<IndexTable<Flat>, Fail> {
     Ok(index)
 }
 
-/// Rows stand by their index keys, and those of one index key by their primary keys (2.6).
+/// Rows stand by their index keys, and those of one index key by their primary keys .
 #[test]
 fn rows_stand_by_index_key_and_then_by_primary_key(rt: HostRuntime) -> Result<(), Fail> {
     let index = five_rows(rt.alloc())?;
@@ -113,6 +118,34 @@ fn rows_are_removed(rt: HostRuntime) -> Result<(), Fail> {
     take(rt.alloc(), &mut index, row(20, 2))?;
     let shown = listing(rt.alloc(), &index)?;
     assert_eq!(rt; shown.as_str(), "10:3 10:9 20:7 30:2 ");
+    Ok(())
+}
+
+/// A replacement leaves the rows of the new list in place of those of the old one, near or far, and all others.
+#[test]
+fn rows_are_replaced(rt: HostRuntime) -> Result<(), Fail> {
+    let mut index: IndexTable<FlatTables> = IndexTable::new(rt.alloc());
+    let _ = put(rt.alloc(), &mut index, row(2, 4))?;
+    let mut shown = String::new(rt.alloc());
+    let lists: [&[i64]; 6] = [
+        &[],
+        &[2],
+        &[2, 3, 1],
+        &[1, 2, 4, 3],
+        &[9, 8, 7, 6, 5, 4, 3, 2, 1, 0, 11, 12],
+        &[12, 20, 9],
+    ];
+    for place in 1..lists.len() {
+        replace(rt.alloc(), &mut index, lists[place - 1], lists[place])?;
+        write!(shown, "{}/ ", listing(rt.alloc(), &index)?)?;
+    }
+    assert_eq!(rt;
+        shown.as_str(),
+        concat!(
+            "2:4 2:5 / 1:5 2:4 2:5 3:5 / 1:5 2:4 2:5 3:5 4:5 / ",
+            "0:5 1:5 2:4 2:5 3:5 4:5 5:5 6:5 7:5 8:5 9:5 11:5 12:5 / 2:4 9:5 12:5 20:5 / "
+        )
+    );
     Ok(())
 }
 
@@ -149,7 +182,7 @@ fn the_first_key_had_is_told(rt: HostRuntime) -> Result<(), Fail> {
     Ok(())
 }
 
-/// A bound leaves out the rows below it, and those of its own key if it is open (2.9).
+/// A bound leaves out the rows below it, and those of its own key if it is open.
 #[test]
 fn a_lower_bound_has_its_first_row(rt: HostRuntime) -> Result<(), Fail> {
     let index = five_rows(rt.alloc())?;
@@ -215,7 +248,7 @@ impl Heap {
 /// After each of many additions and removals the index and the plain list say the same.
 #[test]
 fn the_index_agrees_with_a_plain_list(rt: HostRuntime) -> Result<(), Fail> {
-    let mut index: IndexTable<Flat> = IndexTable::new(rt.alloc());
+    let mut index: IndexTable<FlatTables> = IndexTable::new(rt.alloc());
     let mut heap = Heap {
         rows: Vec::new(rt.alloc()),
     };
@@ -235,11 +268,11 @@ fn the_index_agrees_with_a_plain_list(rt: HostRuntime) -> Result<(), Fail> {
         assert_eq!(rt; shown.as_str(), heap.listing(rt.alloc())?.as_str());
         let bound = Key::Number(primary);
         assert_eq!(rt;
-            first_from(&index, Some(&bound), false),
+            index.find_first(Some(&bound), false),
             heap.below(primary, false)
         );
         assert_eq!(rt;
-            first_from(&index, Some(&bound), true),
+            index.find_first(Some(&bound), true),
             heap.below(primary, true)
         );
     }
@@ -280,5 +313,5 @@ fn a_list_of_rows_keeps_their_order(rt: HostRuntime) -> Result<(), Fail> {
 /// A table of records begins empty.
 #[test]
 fn a_table_of_records_begins_empty(rt: HostRuntime) {
-    assert_eq!(rt; Flat::records(rt.alloc()).len(), 0);
+    assert_eq!(rt; FlatTables::records(rt.alloc()).len(), 0);
 }

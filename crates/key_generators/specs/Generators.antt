@@ -1,14 +1,15 @@
--- Key generators (Indexed Database API 3.0, 2.13), seen as their current number.
+-- Key generators (Indexed Database API 3.0, "key generators"), seen as their current number.
 --     last_number           the greatest number that a generator gives, 2^53
 --     IsGenerator           what the current number of each generator meets
 --     IsExhausted           the generator has no number left
 --     after_key, after_keys the current number after explicit keys were stored
-use Rattle.std.specs.Prelude.{ℕ, ◌+◌, ◌^◌, ◌<◌, ◌≤◌, nat_le, min, pos, List, [], ◌∷◌, if◌then◌else◌}
+use Rattle.std.specs.Prelude.{ℕ, ◌+◌, ◌<◌, ◌≤◌, nat_le, min, pos, List, [], ◌∷◌, if◌then◌else◌}
 use Rattle.clone_values.specs.KeyTree.{KeyTree, number}
+use Rattle.key_generators.specs.declared.generators.TheConstants.{LAST_NUMBER}
 
 -- the greatest number that a generator gives
 abbrev pub last_number : ℕ
-last_number = 2 ^ 53
+last_number = LAST_NUMBER
 
 -- the current number is at least 1, and at most one more than the last number
 abbrev pub IsGenerator : ℕ → Type 0

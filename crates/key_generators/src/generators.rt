@@ -1,14 +1,15 @@
-// Key generators (Indexed Database API 3.0, 2.13).
+// Key generators (Indexed Database API 3.0, "key generators").
 ghost use Rattle.std.specs.Prelude.{◌≡◌, ℕ, ◌+◌, ◌<◌, ◌≤◌, ◌↔◌, pos, List, IsErr, IfOk, OnOk, OnErr};
 ghost use Rattle.clone_values.specs.KeyTree.{KeyTree, number};
 ghost use Rattle.clone_values.specs.View.{key_tree_of};
 ghost use Rattle.key_generators.specs.Generators.{last_number, IsGenerator, IsExhausted, after_key, after_keys};
 
 use clone_values::Key;
+use idb_base::GREATEST_INT;
 use std::marker::Model;
 
-/// The greatest number that a generator gives.
-const LAST_NUMBER: u64 = 1 << 53;
+/// The greatest number that a generator gives, 2^53.
+pub const LAST_NUMBER: u64 = GREATEST_INT as u64;
 
 /// The generator has given or passed its last number, 2^53.
 #[derive(Clone, Copy, Debug, PartialEq, Eq)]
@@ -99,8 +100,10 @@ fn after_key(current: u64, key: &Key) -> u64
 /// than the numbers stored before, unless the generator is exhausted.
 pub fn generator_laws()
     ensures never_falls { (current : ℕ) (key : KeyTree) → current ≤ after_key current key }
-    ensures in_range { (current : ℕ) (key : KeyTree) → IsGenerator current → IsGenerator (after_key current key) }
+    ensures in_range { (current : ℕ) (key : KeyTree)
+        → IsGenerator current → IsGenerator (after_key current key) }
     ensures passed { (current n : ℕ) → n ≤ last_number → n < after_key current (number (pos n)) }
     ensures rises { (current : ℕ) (keys : List KeyTree) → current < after_keys (current + 1) keys }
-    ensures spent { (current n : ℕ) → last_number ≤ n → IsExhausted (after_key current (number (pos n))) }
+    ensures spent { (current n : ℕ)
+        → last_number ≤ n → IsExhausted (after_key current (number (pos n))) }
 {}

@@ -6,7 +6,7 @@
 
 mod generators;
 
-pub use generators::{Exhausted, Generator, generator_laws};
+pub use generators::{Exhausted, Generator, LAST_NUMBER, generator_laws};
 
 #[cfg(test)]
 mod tests;

@@ -1,2 +1,3 @@
-pub mod KeyLaws
+pub mod ByteOrder
+pub mod Laws
 pub mod TextOrder

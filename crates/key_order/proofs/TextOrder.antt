@@ -1,5 +1,5 @@
 -- The order of texts by code units, character by character, and where it differs from that of UTF-8 bytes.
---     text_cmp-chars        for two texts: by the places of their characters
+--     text_cmp-encodes      for two texts: by the places of their characters
 --     bytes_differ          where the two orders differ
 use Rattle.std.proofs.Common.{◌≡◌, ◌≢◌, ℕ, ◌+◌, ◌-◌, ◌/◌, ◌%◌, ◌<◌, ◌≤◌, ◌⊎◌, inl, inr, true, nat_lt, List, [], ◌∷◌, ◌++◌, refl, sym, ◌∙◌, ap, arith, append_assoc}
 use Rattle.std.proofs.lemmas.Grind.{common_steps}
@@ -16,27 +16,26 @@ use Rattle.std.proofs.lemmas.Cmp.{ranked, by_ranked}
 use Rattle.std.specs.Cmp.{nat_cmp_is, first_so, second_so}
 use Rattle.std.proofs.lemmas.Cmp.{nat_list_cmp_total, tied_itself}
 use Rattle.std.specs.FinMap.{nat_cmp-IsAntisymmetric}
-use Rattle.clone_values.specs.Characters.{Step}
-use Rattle.key_order.proofs.KeyLaws.{then_equal}
+use Rattle.key_order.proofs.Laws.{then_equal}
 use Rattle.std.proofs.lemmas.Bool.{cond_both}
 use Rattle.std.proofs.Common.{ltb-true, ltb-false}
 use lib.Utf8.{scalar, scalar_cases}
 use Rattle.key_order.specs.KeyOrder.{code_units, text_cmp, char_rank, DifferAt, SurrogateMeetsHigh}
 
 -- ---- numbers
-less : (x y : ℕ) → x < y → nat_cmp x y ≡ Less
+pub less : (x y : ℕ) → x < y → nat_cmp x y ≡ Less
 less x y h = sym (nat_cmp_is x y Less h)
 
-greater : (x y : ℕ) → y < x → nat_cmp x y ≡ Greater
+pub greater : (x y : ℕ) → y < x → nat_cmp x y ≡ Greater
 greater x y h = sym (nat_cmp_is x y Greater h)
 
-tied : (x y : ℕ) → x ≡ y → nat_cmp x y ≡ Equal
+pub tied : (x y : ℕ) → x ≡ y → nat_cmp x y ≡ Equal
 tied x y h = sym (nat_cmp_is x y Equal h)
 
-three : {G : Type 0} (x y : ℕ) → (x < y → G) → (x ≡ y → G) → (y < x → G) → G
+pub three : {G : Type 0} (x y : ℕ) → (x < y → G) → (x ≡ y → G) → (y < x → G) → G
 three x y f g h = by_ranked (x < y) (x ≡ y) (y < x) (nat_cmp x y) (ranked x y (nat_cmp x y) refl) (λ _. f) (λ _. g) (λ _. h)
 
-alike : (x y u v : ℕ) → (x < y → u < v) → (x ≡ y → u ≡ v) → (y < x → v < u) → nat_cmp x y ≡ nat_cmp u v
+pub alike : (x y u v : ℕ) → (x < y → u < v) → (x ≡ y → u ≡ v) → (y < x → v < u) → nat_cmp x y ≡ nat_cmp u v
 alike x y u v f g h = three x y (λ p. less x y p ∙ sym (less u v (f p))) (λ p. tied x y p ∙ sym (tied u v (g p))) (λ p. greater x y p ∙ sym (greater u v (h p)))
 
 -- ---- the places of characters
@@ -55,11 +54,11 @@ above_rise c d h g p = grind (arith, common_steps)
 rank_same_by : (c d : ℕ) → c < 1114112 → d < 1114112 → char_rank c ≡ char_rank d → c ≡ d
 rank_same_by c d h g p = grind (arith, common_steps)
 
-below_end : (c : ℕ) → scalar c ≡ true → c < 1114112
+pub below_end : (c : ℕ) → scalar c ≡ true → c < 1114112
 below_end c h = elim (scalar_cases c h) [ inl p ↦ omega arith | inr p ↦ p.1 ]
 
 -- ---- lists of which the first is less at the first place where they differ
-abbrev Rises : List ℕ → List ℕ → Type 0
+abbrev pub Rises : List ℕ → List ℕ → Type 0
 Rises [] vs = ⊥
 Rises (u ∷ us) [] = ⊥
 Rises (u ∷ us) (v ∷ vs) = (u < v) ⊎ ((u ≡ v) × Rises us vs)
@@ -119,7 +118,7 @@ units_rise c d h g p = cond_both (nat_lt c 65536) _ _ (λ us. Rises us (encode_u
     (λ f. let high : 57344 ≤ d = high_rise c d (ltb-false c 65536 e) (ltb-true d 65536 f) p in let end : c < 1114112 = below_end c h in inl (omega arith))
     (λ f. pair_rise c d (ltb-false c 65536 e) (ltb-false d 65536 f) (above_rise c d (ltb-false c 65536 e) (ltb-false d 65536 f) p)))
 
-rank_same : (c d : ℕ) → scalar c ≡ true → scalar d ≡ true → char_rank c ≡ char_rank d → c ≡ d
+pub rank_same : (c d : ℕ) → scalar c ≡ true → scalar d ≡ true → char_rank c ≡ char_rank d → c ≡ d
 rank_same c d h g p = rank_same_by c d (below_end c h) (below_end d g) p
 
 some_unit : (c : ℕ) (r : List ℕ) → slice_cmp nat_cmp [] (encode_utf16 c ++ r) ≡ Less
@@ -129,7 +128,7 @@ some_unit c r = cond_both (nat_lt c 65536) _ _ (λ u. slice_cmp nat_cmp [] (u ++
 digits : (F : ℕ → List ℕ) → ((x y : ℕ) → x < y → Rises (F x) (F y)) → (c d : ℕ) → c < d → Rises (F (c / 64) ++ (128 + c % 64) ∷ []) (F (d / 64) ++ (128 + d % 64) ∷ [])
 digits F f c d p = three (c / 64) (d / 64) (λ q. longer _ _ _ _ (f _ _ q)) (λ q. let last : c % 64 < d % 64 = omega arith in let end : 128 + c % 64 < 128 + d % 64 = omega arith in rw q (after_same (F (d / 64)) ((128 + c % 64) ∷ []) ((128 + d % 64) ∷ []) (inl end))) (λ q. absurd (omega arith))
 
-encode_cases : (G : List ℕ → Type 0) (c : ℕ) → (c < 128 → G (c ∷ [])) → (128 ≤ c → c < 2048 → G ((192 + c / 64) ∷ (128 + c % 64) ∷ []))
+pub encode_cases : (G : List ℕ → Type 0) (c : ℕ) → (c < 128 → G (c ∷ [])) → (128 ≤ c → c < 2048 → G ((192 + c / 64) ∷ (128 + c % 64) ∷ []))
     → (2048 ≤ c → c < 65536 → G ((224 + c / 4096) ∷ (128 + (c / 64) % 64) ∷ (128 + c % 64) ∷ []))
     → (65536 ≤ c → G ((240 + c / 262144) ∷ (128 + (c / 4096) % 64) ∷ (128 + (c / 64) % 64) ∷ (128 + c % 64) ∷ [])) → G (encode_utf8 c)
 unfolding encode_utf8
@@ -156,7 +155,7 @@ four_bytes c d p =
     rw (← kc, ← kd, ← ec, ← ed) (digits (λ z. (240 + z / 64 / 64) ∷ (128 + (z / 64) % 64) ∷ (128 + z % 64) ∷ [])
     (digits (λ y. (240 + y / 64) ∷ (128 + y % 64) ∷ []) (digits (λ x. (240 + x) ∷ []) (λ x y q. inl (omega arith)))) c d p)
 
-bytes_rise : (c d : ℕ) → scalar c ≡ true → scalar d ≡ true → c < d → Rises (encode_utf8 c) (encode_utf8 d)
+pub bytes_rise : (c d : ℕ) → scalar c ≡ true → scalar d ≡ true → c < d → Rises (encode_utf8 c) (encode_utf8 d)
 bytes_rise c d h g p = encode_cases (λ us. Rises us (encode_utf8 d)) c
     (λ c1. encode_cases (λ vs. Rises (c ∷ []) vs) d (λ d1. inl p) (λ d1 d2. inl (omega arith)) (λ d2 d3. inl (omega arith)) (λ d3. inl (omega arith)))
     (λ c1 c2. encode_cases (λ vs. Rises ((192 + c / 64) ∷ (128 + c % 64) ∷ []) vs) d (λ d1. absurd (omega arith)) (λ d1 d2. two_bytes c d p) (λ d2 d3. inl (omega arith)) (λ d3. inl (omega arith)))
@@ -169,7 +168,7 @@ some_byte : (c : ℕ) (r : List ℕ) → slice_cmp nat_cmp [] (encode_utf8 c ++ 
 some_byte c r = encode_cases (λ u. slice_cmp nat_cmp [] (u ++ r) ≡ Less) c (λ _. refl) (λ _ _. refl) (λ _ _. refl) (λ _. refl)
 
 -- ---- texts
-encodes_flat : (cs : List ℕ) → encode_utf8_all cs ≡ flat_map encode_utf8 cs
+pub encodes_flat : (cs : List ℕ) → encode_utf8_all cs ≡ flat_map encode_utf8 cs
 encodes_flat [] = refl
 encodes_flat (c ∷ cs) = ap (λ r. encode_utf8 c ++ r) (encodes_flat cs)
 
@@ -188,25 +187,15 @@ needless Less b f = refl
 needless Equal b f = f refl
 needless Greater b f = refl
 
-text_cmp-encodes : (cs ds : List ℕ) → all_scalars cs ≡ true → all_scalars ds ≡ true
+pub text_cmp-encodes : (cs ds : List ℕ) → all_scalars cs ≡ true → all_scalars ds ≡ true
     → text_cmp (encode_utf8_all cs) (encode_utf8_all ds) ≡ slice_cmp (on char_rank nat_cmp) (chars (encode_utf8_all cs)) (chars (encode_utf8_all ds))
 text_cmp-encodes cs ds h g =
     let bytes : slice_cmp (on char_rank nat_cmp) cs ds ≡ Equal → slice_cmp nat_cmp (encode_utf8_all cs) (encode_utf8_all ds) ≡ Equal =
     λ e. rw (same_chars cs ds h g e) (tied_itself nat_list_cmp_total (encode_utf8_all ds)) in
     rw (chars-encodes cs h, chars-encodes ds g, keeps_order encode_utf16 char_rank units_rise rank_same some_unit cs ds h g) (needless _ _ bytes)
 
-pub text_cmp-chars : (s t : List ℕ) → IsUtf8 s → IsUtf8 t → text_cmp s t ≡ slice_cmp (on char_rank nat_cmp) (chars s) (chars t)
-text_cmp-chars s t (cs, (h, e)) (ds, (g, f)) = rw (← e, ← f) (text_cmp-encodes cs ds h g)
-
-module _ {l r s t : List ℕ} {c d : ℕ} (x : Step l s c) (y : Step r t d) where
-  pub same_char : c ≡ d → slice_cmp (on char_rank nat_cmp) (chars s) (chars t) ≡ slice_cmp (on char_rank nat_cmp) (chars l) (chars r)
-  same_char e = sym ((λ i. slice_cmp (on char_rank nat_cmp) (x.first i) (y.first i)) ∙ ap (λ o. ordering_then o (slice_cmp (on char_rank nat_cmp) (chars s) (chars t))) (tied (char_rank c) (char_rank d) (ap char_rank e)))
-
-  pub other_char : c ≢ d → nat_cmp (char_rank c) (char_rank d) ≡ slice_cmp (on char_rank nat_cmp) (chars l) (chars r)
-  other_char n = sym ((λ i. slice_cmp (on char_rank nat_cmp) (x.first i) (y.first i)) ∙ needless _ _ (λ e. absurd (n (rank_same c d x.is_char y.is_char (nat_cmp-IsAntisymmetric (char_rank c) (char_rank d) e)))))
-
 -- ---- where the order of bytes is another
-cross : (c d : ℕ) → c < d → char_rank d < char_rank c → (57344 ≤ c) × (c < 65536) × (65536 ≤ d)
+pub cross : (c d : ℕ) → c < d → char_rank d < char_rank c → (57344 ≤ c) × (c < 65536) × (65536 ≤ d)
 cross c d p q = grind (arith, common_steps)
 
 abbrev Meets : List ℕ → List ℕ → Type 0

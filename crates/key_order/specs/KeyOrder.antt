@@ -1,7 +1,7 @@
--- The order of keys (Indexed Database API 3.0, 2.4, "compare two keys").
+-- The order of keys (Indexed Database API 3.0, "compare two keys").
 --     code_units s          the UTF-16 code units of a text that is given by its UTF-8 bytes
 --     text_cmp              strings by their code units
---     char_rank             where a character stands in that order
+--     char_rank, byte_rank  where a character stands in that order, and a byte of its UTF-8
 --     type_rank             where a key's type stands: number, date, string, binary, array
 --     key_cmp, IsBelow      the order of keys
 --     DifferAt              two lists begin alike and then have these two members
@@ -27,6 +27,10 @@ text_cmp s t = ordering_then (slice_cmp nat_cmp (code_units s) (code_units t)) (
 -- where a character stands in the order of code units: those from U+E000 to U+FFFF stand behind the ones above
 abbrev pub char_rank : ℕ → ℕ
 char_rank c = if nat_le 57344 c && nat_lt c 65536 then c + 1114112 else c
+
+-- where a byte of UTF-8 stands: 0xEE and 0xEF, which begin the characters from U+E000 to U+FFFF, stand behind the others
+abbrev pub byte_rank : ℕ → ℕ
+byte_rank b = if nat_le 238 b && nat_lt b 240 then b + 18 else b
 
 -- the rising types of keys
 abbrev pub type_rank : KeyTree → ℕ

@@ -1,5 +1,6 @@
 use super::*;
 use clone_values::{Bytes, Text};
+use idb_base::GREATEST_LENGTH;
 use std::alloc::Global;
 use std::process::Abort;
 use std::test::Fail;
@@ -19,7 +20,10 @@ enum Short {
 use Short::{Arrays, Binary, Date, Number, Numbers, Texts};
 
 fn text(alloc: Global, s: &str) -> Result<Key, Fail> {
-    Ok(Key::Text(Text::from_string(String::from_str(alloc, s)?)))
+    if s.len() > GREATEST_LENGTH {
+        return Err(Fail::new("a text that is too long"));
+    }
+    Ok(Key::Text(Text::copy_of(alloc, s)?))
 }
 
 fn numbers(rt: &impl Abort, alloc: Global, all: &[i64]) -> Result<Key, Fail> {
@@ -64,7 +68,7 @@ fn key(rt: &impl Abort, alloc: Global, short: &Short) -> Result<Key, Fail> {
     }
 }
 
-/// Pairs of which the first key is less, by the text of "compare two keys" (Indexed Database API 3.0, 2.4): an array is
+/// Pairs of which the first key is less, by the text of "compare two keys" (Indexed Database API 3.0): an array is
 /// greater than a binary, this than a string, this than a date, this than a number; within a type by value, by code
 /// units, by bytes, by members, and then the shorter first.
 const RISING: [(Short, Short); 56] = [
@@ -173,9 +177,9 @@ fn long_texts_compare_in_one_pass(rt: HostRuntime) -> Result<(), Fail> {
     }
     let mut longer = long.clone()?;
     longer.push('a')?;
-    let same = Key::Text(Text::from_string(long.clone()?));
-    let long = Key::Text(Text::from_string(long));
-    let longer = Key::Text(Text::from_string(longer));
+    let same = text(rt.alloc(), long.as_str())?;
+    let long = text(rt.alloc(), long.as_str())?;
+    let longer = text(rt.alloc(), longer.as_str())?;
     assert_eq!(rt; compare(&long, &same), Ordering::Equal);
     assert_eq!(rt; compare(&long, &longer), Ordering::Less);
     assert_eq!(rt; compare(&longer, &same), Ordering::Greater);

@@ -11,14 +11,14 @@ use Rattle.key_order.specs.KeyOrder.{key_cmp}
 use Rattle.std.specs.BTreeMap.{is_at}
 use Rattle.std.specs.BTreeSet.{BTreeSet, Updates}
 use Rattle.std.specs.Cmp.{eq_by_cmp_equiv}
-use Rattle.key_order.proofs.KeyLaws.{key_cmp_same, key_cmp_total}
+use Rattle.key_order.proofs.Laws.{key_cmp_same, key_cmp_total}
 use Rattle.std.specs.Prelude.{if◌then◌else◌}
 use Rattle.key_paths.specs.Conversion.{key_of, keys_of, each_once}
-use Rattle.key_paths.specs.KeysSeen.{among, with_new, HasExactly}
+use Rattle.key_paths.specs.KeysSeen.{is_among_keys, with_new, HasExactly}
 
 -- the keys that are not among those found
 abbrev pub others : List KeyTree → List KeyTree → List KeyTree
-others found ks = filter (λ j. not (among found j)) ks
+others found ks = filter (λ j. not (is_among_keys found j)) ks
 
 -- what is found so far, and what these items add to it
 abbrev pub Adds : List KeyTree → List Tree → List KeyTree
@@ -34,9 +34,9 @@ filters p q r h (x ∷ ks) =
       | false ↦ λ e. rest ∙ ap (λ b. cond b (x ∷ filter r ks) (filter r ks)) (sym e)
     ] (h x)
 
-among_more : (found : List KeyTree) (k x : KeyTree) → among (found ++ k ∷ []) x ≡ (is_eq (key_cmp x k) || among found x)
+among_more : (found : List KeyTree) (k x : KeyTree) → is_among_keys (found ++ k ∷ []) x ≡ (is_eq (key_cmp x k) || is_among_keys found x)
 among_more [] k x = refl
-among_more (j ∷ found) k x = ap (λ b. is_eq (key_cmp x j) || b) (among_more found k x) ∙ turned (is_eq (key_cmp x j)) (is_eq (key_cmp x k)) (among found x)
+among_more (j ∷ found) k x = ap (λ b. is_eq (key_cmp x j) || b) (among_more found k x) ∙ turned (is_eq (key_cmp x j)) (is_eq (key_cmp x k)) (is_among_keys found x)
   where
     turned : (a b c : Bool) → (a || (b || c)) ≡ (b || (a || c))
     turned true true c = refl
@@ -63,13 +63,13 @@ module _ (found : List KeyTree) (k : KeyTree) (t : Tree) (ts rest : List Tree) (
   first_key e = ap (λ us. each_once (filter_map key_of us)) starts ∙ ap (λ o. each_once (cons_option o (filter_map key_of rest))) e
 
   -- a key that is there already adds nothing
-  repeated : key_of t ≡ Some k → among found k ≡ true → Adds found rest ≡ Adds found ts
+  repeated : key_of t ≡ Some k → is_among_keys found k ≡ true → Adds found rest ≡ Adds found ts
   repeated e h =
       let all = each_once (filter_map key_of rest) in
-      let one = filters (λ j. not (among found j)) (λ j. not (is_eq (key_cmp j k))) (λ j. not (among found j)) (λ x.
-      elim (key_cmp x k) as (λ o. key_cmp x k ≡ o → not (among found x) ≡ (not (is_eq o) && not (among found x))) [
+      let one = filters (λ j. not (is_among_keys found j)) (λ j. not (is_eq (key_cmp j k))) (λ j. not (is_among_keys found j)) (λ x.
+      elim (key_cmp x k) as (λ o. key_cmp x k ≡ o → not (is_among_keys found x) ≡ (not (is_eq o) && not (is_among_keys found x))) [
         | Less ↦ λ q. refl
-        | Equal ↦ λ q. ap (λ y. not (among found y)) (key_cmp_same x k q) ∙ ap not h
+        | Equal ↦ λ q. ap (λ y. not (is_among_keys found y)) (key_cmp_same x k q) ∙ ap not h
         | Greater ↦ λ q. refl
       ] refl) all in
       sym (ap (λ ks. found ++ others found ks) (first_key e)
@@ -77,11 +77,11 @@ module _ (found : List KeyTree) (k : KeyTree) (t : Tree) (ts rest : List Tree) (
       ∙ ap (λ ks. found ++ ks) one)
 
   -- a new one goes to the end
-  added : key_of t ≡ Some k → among found k ≡ false → Adds (found ++ k ∷ []) rest ≡ Adds found ts
+  added : key_of t ≡ Some k → is_among_keys found k ≡ false → Adds (found ++ k ∷ []) rest ≡ Adds found ts
   added e h =
       let all = each_once (filter_map key_of rest) in
-      let one = filters (λ j. not (among found j)) (λ j. not (is_eq (key_cmp j k))) (λ j. not (among (found ++ k ∷ []) j))
-      (λ x. ap not (among_more found k x) ∙ not_either (is_eq (key_cmp x k)) (among found x)) all in
+      let one = filters (λ j. not (is_among_keys found j)) (λ j. not (is_eq (key_cmp j k))) (λ j. not (is_among_keys (found ++ k ∷ []) j))
+      (λ x. ap not (among_more found k x) ∙ not_either (is_eq (key_cmp x k)) (is_among_keys found x)) all in
       sym (ap (λ ks. found ++ others found ks) (first_key e)
       ∙ ap (λ b. found ++ cond (not b) (k ∷ others found (filter (λ j. not (is_eq (key_cmp j k))) all)) (others found (filter (λ j. not (is_eq (key_cmp j k))) all))) h
       ∙ ap (λ ks. found ++ k ∷ ks) one
@@ -89,7 +89,7 @@ module _ (found : List KeyTree) (k : KeyTree) (t : Tree) (ts rest : List Tree) (
 
   -- a valid item adds its key, where it isn't there
   pub kept : key_of t ≡ Some k → Adds (with_new found k) rest ≡ Adds found ts
-  kept e = elim (among found k) as (λ b. among found k ≡ b → Adds (if b then found else found ++ k ∷ []) rest ≡ Adds found ts) [ true ↦ repeated e | false ↦ added e ] refl
+  kept e = elim (is_among_keys found k) as (λ b. is_among_keys found k ≡ b → Adds (if b then found else found ++ k ∷ []) rest ≡ Adds found ts) [ true ↦ repeated e | false ↦ added e ] refl
 
 -- ---- the set of the keys found
 either : (b c : Bool) → cond b true c ≡ (b || c)
@@ -101,4 +101,4 @@ none_seen s e k = ap (list_any (is_at (key_cmp k))) e
 
 pub still_same : (s n : BTreeSet KeyTree) (found : List KeyTree) (k : KeyTree) → HasExactly s found → Updates key_cmp s n k true → HasExactly n (found ++ k ∷ [])
 still_same s n found k h u q =
-    u.0 q ∙ (λ i. cond ((eq_by_cmp_equiv key_cmp_total).symm k q i) true (h q i)) ∙ either (is_eq (key_cmp q k)) (among found q) ∙ sym (among_more found k q)
+    u.0 q ∙ (λ i. cond ((eq_by_cmp_equiv key_cmp_total).symm k q i) true (h q i)) ∙ either (is_eq (key_cmp q k)) (is_among_keys found q) ∙ sym (among_more found k q)

@@ -9,20 +9,20 @@ use Rattle.std.specs.Ordering.{nat_cmp, is_eq, match_ordering, ordering_reverse}
 use Rattle.std.specs.declared.cmp.Ordering.TheVariants.{Less, Equal, Greater}
 use Rattle.std.proofs.lemmas.Cmp.{nat_list_cmp_total, tied_itself}
 use Rattle.clone_values.specs.Tree.{Tree, undefined, null, boolean, int, text, date, bytes, array, object, map_object, set_object, function, no_members}
-use Rattle.clone_values.proofs.Lists.{members_again}
+use Rattle.clone_values.proofs.Laws.{members_again}
 use Rattle.clone_values.specs.KeyTree.{KeyTree}
 use Rattle.clone_values.specs.KeyTree as keys
 use Rattle.clone_values.specs.Names.{get_member, set_member}
 use Rattle.clone_values.specs.declared.path_types.PathSpec.TheVariants.{One}
 use Rattle.path_grammar.specs.KeyPath.{parts_of}
-use Rattle.path_grammar.proofs.PathParts.{some_part}
+use Rattle.path_grammar.proofs.Laws.{some_part}
 use Rattle.clone_values.specs.KeyValues.{value_of_key}
-use Rattle.key_paths.specs.Evaluation.{evaluated, walked, step_of, takes_length, length_of, property_of, properties_of, unless_undefined, is_length}
-use Rattle.key_paths.specs.Injection.{can_inject, is_holder, all_but_last, ends_at_holder, with_properties, held, placed}
+use Rattle.key_paths.specs.Evaluation.{evaluated, walked, step_of, takes_length, length_of, property_of, named_properties, unless_undefined, is_length}
+use Rattle.key_paths.specs.Injection.{can_inject, is_holder, all_but_last, ends_at_holder, with_properties, held_under, placed}
 use Rattle.key_paths.proofs.PathEnds.{no_length, holder_so, ends_inside}
 
 -- ---- an Object or Array with other properties
-holder_defined : (t : Tree) → is_holder t ≡ true → unless_undefined (Some t) ≡ Some t
+pub holder_defined : (t : Tree) → is_holder t ≡ true → unless_undefined (Some t) ≡ Some t
 holder_defined (array ts ms) h = refl
 holder_defined (object ms) h = refl
 holder_defined undefined h = cc
@@ -37,7 +37,7 @@ holder_defined (set_object ts) h = refl
 holder_defined function h = refl
 
 module _ (t : Tree) (h : is_holder t ≡ true) (ps : List (List ℕ × Tree)) where
-  data_of : (u : Tree) → is_holder u ≡ true → (properties_of (with_properties u ps) ≡ ps) × (is_holder (with_properties u ps) ≡ true) × (is_some (length_of (with_properties u ps)) ≡ is_some (length_of u))
+  data_of : (u : Tree) → is_holder u ≡ true → (named_properties (with_properties u ps) ≡ ps) × (is_holder (with_properties u ps) ≡ true) × (is_some (length_of (with_properties u ps)) ≡ is_some (length_of u))
   data_of (array ts ms) e = (members_again ps, refl, refl)
   data_of (object ms) e = (members_again ps, refl, refl)
   data_of undefined e = cc
@@ -51,7 +51,7 @@ module _ (t : Tree) (h : is_holder t ≡ true) (ps : List (List ℕ × Tree)) wh
   data_of (set_object ts) e = cc
   data_of function e = cc
 
-  same_properties : properties_of (with_properties t ps) ≡ ps
+  same_properties : named_properties (with_properties t ps) ≡ ps
   same_properties = (data_of t h).0
 
   still_holder : is_holder (with_properties t ps) ≡ true
@@ -79,35 +79,35 @@ got_set (m ∷ ms) n v =
       | Greater ↦ λ e. ap (λ b. option_map (λ p. p.1) (cond b (Some m) (find (λ p. pointwise nat_eq p.0 n) (set_member ms n v)))) (another n m.0 e) ∙ got_set ms n v
     ] refl
 
-turned : (b : Bool) → not b ≡ true → b ≡ false
+pub turned : (b : Bool) → not b ≡ true → b ≡ false
 turned true e = sym e
 turned false e = refl
 
 -- a step that isn't to a length
-plain_step : (t : Tree) (n : List ℕ) → not (takes_length n t) ≡ true → step_of n t ≡ property_of n t
+pub plain_step : (t : Tree) (n : List ℕ) → not (takes_length n t) ≡ true → step_of n t ≡ property_of n t
 plain_step t n h = ap (λ b. if b then length_of t else property_of n t) (turned (takes_length n t) h)
 
 property_set : (t : Tree) (n : List ℕ) (v : Tree) → is_holder t ≡ true → unless_undefined (Some v) ≡ Some v → not (takes_length n t) ≡ true
-    → step_of n (with_properties t (set_member (properties_of t) n v)) ≡ Some v
+    → step_of n (with_properties t (set_member (named_properties t) n v)) ≡ Some v
 property_set t n v h d f =
-    let ms = set_member (properties_of t) n v in
+    let ms = set_member (named_properties t) n v in
     plain_step (with_properties t ms) n (ap not (same_length t h ms n) ∙ f)
-    ∙ ap (λ us. unless_undefined (get_member us n)) (same_properties t h ms) ∙ ap unless_undefined (got_set (properties_of t) n v) ∙ d
+    ∙ ap (λ us. unless_undefined (get_member us n)) (same_properties t h ms) ∙ ap unless_undefined (got_set (named_properties t) n v) ∙ d
 
 -- ---- an Object that was made
 and_false : (b : Bool) → (b && false) ≡ false
 and_false true = refl
 and_false false = refl
 
-no_step : (n : List ℕ) → step_of n (object no_members) ≡ None
+pub no_step : (n : List ℕ) → step_of n (object no_members) ≡ None
 no_step n = ap (λ b. if b then length_of (object no_members) else property_of n (object no_members)) (and_false (is_length n))
 
-new_holder : (ns : List (List ℕ)) → ends_at_holder ns (object no_members) ≡ true
+pub new_holder : (ns : List (List ℕ)) → ends_at_holder ns (object no_members) ≡ true
 new_holder [] = refl
 new_holder (n ∷ ns) = ap (λ b. true && not b && true) (and_false (is_length n))
 
 -- ---- step by step
-gives_none : (o : Option Tree) → is_some o ≡ true → option_and_then (walked []) o ≡ None → ⊥
+pub gives_none : (o : Option Tree) → is_some o ≡ true → option_and_then (walked []) o ≡ None → ⊥
 gives_none None h e = cc
 gives_none (Some t) h e = cc
 
@@ -123,16 +123,16 @@ module _ (v : Tree) (d : unless_undefined (Some v) ≡ Some v) where
   found n (m ∷ ns) t h e =
       let rest = all_but_last (m ∷ ns) in
       let plain = no_length n rest t h in
-      let inner : (ends_at_holder rest (held n (properties_of t)) ≡ true) × (walked (m ∷ ns) (held n (properties_of t)) ≡ None) =
-      elim (get_member (properties_of t) n) as (λ o. get_member (properties_of t) n ≡ o → (ends_at_holder rest (unwrap_or o (object no_members)) ≡ true) × (walked (m ∷ ns) (unwrap_or o (object no_members)) ≡ None)) [
+      let inner : (ends_at_holder rest (held_under n (named_properties t)) ≡ true) × (walked (m ∷ ns) (held_under n (named_properties t)) ≡ None) =
+      elim (get_member (named_properties t) n) as (λ o. get_member (named_properties t) n ≡ o → (ends_at_holder rest (unwrap_or o (object no_members)) ≡ true) × (walked (m ∷ ns) (unwrap_or o (object no_members)) ≡ None)) [
         | None ↦ λ q. (new_holder rest, ap (option_and_then (walked ns)) (no_step m))
         | Some u ↦ λ q.
             let g : ends_at_holder rest u ≡ true = ap (λ o. unwrap_or (option_map (ends_at_holder rest) o) true) (sym q) ∙ ends_inside n rest t h in
             (g, sym (ap (option_and_then (walked (m ∷ ns))) (plain_step t n plain ∙ ap unless_undefined q ∙ holder_defined u (holder_so rest u g))) ∙ e)
       ] refl in
-      let w = placed (m ∷ ns) (held n (properties_of t)) v in
-      let is_one : is_holder w ≡ true = still_holder (held n (properties_of t)) (holder_so rest (held n (properties_of t)) inner.0) _ in
-      ap (option_and_then (walked (m ∷ ns))) (property_set t n w (holder_so (n ∷ rest) t h) (holder_defined w is_one) plain) ∙ found m ns (held n (properties_of t)) inner.0 inner.1
+      let w = placed (m ∷ ns) (held_under n (named_properties t)) v in
+      let is_one : is_holder w ≡ true = still_holder (held_under n (named_properties t)) (holder_so rest (held_under n (named_properties t)) inner.0) _ in
+      ap (option_and_then (walked (m ∷ ns))) (property_set t n w (holder_so (n ∷ rest) t h) (holder_defined w is_one) plain) ∙ found m ns (held_under n (named_properties t)) inner.0 inner.1
 
   found_by : (ps : List (List ℕ)) (t : Tree) → 1 ≤ length ps → ends_at_holder (all_but_last ps) t ≡ true → walked ps t ≡ None → walked ps (placed ps t v) ≡ Some v
   found_by [] t l h e = absurd (omega arith)

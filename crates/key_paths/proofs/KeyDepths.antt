@@ -10,8 +10,8 @@ use Rattle.clone_values.specs.KeyTree.{KeyTree, KeyTrees}
 use Rattle.clone_values.specs.KeyTree as keys
 use Rattle.clone_values.specs.Values.{depth_of, trees_depth, members_depth}
 use Rattle.key_order.specs.KeyOrder.{key_cmp}
-use Rattle.key_order.proofs.KeyLaws.{key_cmp_total}
-use Rattle.key_paths.specs.Conversion.{with_first, key_within, keys_within, key_of, each_once, keys_of, AreDistinct}
+use Rattle.key_order.proofs.Laws.{key_cmp_total}
+use Rattle.key_paths.specs.Conversion.{with_first, key_within, keys_within, key_of, each_once, keys_of, AreDistinctKeys}
 use Rattle.clone_values.specs.KeyValues.{key_depth, keys_depth}
 
 -- ---- depth
@@ -72,15 +72,15 @@ pub all_shallow : (ts : List Tree) → All (λ k. key_depth k ≤ 100) (keys_of 
 all_shallow ts = all_once (λ k. key_depth k ≤ 100) (filter_map key_of ts) (of_items (λ k. key_depth k ≤ 100) shallow ts)
 
 -- ---- none stands twice
-distinct_filter : (p : KeyTree → Bool) (ks : List KeyTree) → AreDistinct ks → AreDistinct (filter p ks)
+distinct_filter : (p : KeyTree → Bool) (ks : List KeyTree) → AreDistinctKeys ks → AreDistinctKeys (filter p ks)
 distinct_filter p [] h = tt
 distinct_filter p (k ∷ ks) h =
-    elim (p k) as (λ b. AreDistinct (cond b (k ∷ filter p ks) (filter p ks))) [
+    elim (p k) as (λ b. AreDistinctKeys (cond b (k ∷ filter p ks) (filter p ks))) [
       | true ↦ (All-filter p (λ j. j ≢ k) ks h.0, distinct_filter p ks h.1)
       | false ↦ distinct_filter p ks h.1
     ]
 
-pub once : (ks : List KeyTree) → AreDistinct (each_once ks)
+pub once : (ks : List KeyTree) → AreDistinctKeys (each_once ks)
 once [] = tt
 once (k ∷ ks) =
     let other : KeyTree → Bool = λ j. not (is_eq (key_cmp j k)) in (

@@ -1,3 +1,5 @@
+pub mod Convertible
+pub mod Extracting
 pub mod KeysFound
 pub mod EachOnce
 pub mod Walks
@@ -7,3 +9,7 @@ pub mod Placing
 pub mod FoundAgain
 pub mod StaysCloneable
 pub mod KeyDepths
+pub mod KeysFormed
+pub mod ValuesFound
+pub mod ValuesInjected
+pub mod Laws

@@ -1,10 +1,7 @@
 -- A key of depth 1 makes no value that can't be cloned: at most 99 identifiers, and no Function.
-use Rattle.std.proofs.Common.{◌≡◌, ℕ, ◌+◌, ◌≤◌, ◌==◌, nat_eq, nat_le, cond, Bool, true, false, ◌&&◌, ◌||◌, max, List, [], ◌∷◌, length, option_map, unwrap_or, Some, refl, sym, ◌∙◌, ap, arith, leb-true}
-use Rattle.std.proofs.lemmas.Grind.{common_steps}
-use Rattle.std.specs.Cmp.{first_so}
+use Rattle.std.proofs.Common.{◌≡◌, ℕ, ◌+◌, ◌≤◌, nat_eq, cond, Bool, true, false, ◌||◌, max, List, [], ◌∷◌, length, option_map, unwrap_or, Some, refl, ◌∙◌, ap, arith}
 use Rattle.std.specs.Cmp.Lexicographic.{slice_cmp, pointwise}
-use Rattle.std.specs.List.{find, list_all}
-use Rattle.std.specs.Str.{chars}
+use Rattle.std.specs.List.{find}
 use Rattle.std.specs.Ordering.{nat_cmp, match_ordering}
 use Rattle.std.specs.declared.cmp.Ordering.TheVariants.{Less, Equal, Greater}
 use Rattle.clone_values.specs.Tree.{Tree, Members, array, object, no_members, member_more, members_of, list_of_members}
@@ -13,13 +10,14 @@ use Rattle.clone_values.specs.Names.{set_member}
 use Rattle.clone_values.specs.Values.{depth_of, members_depth, holds_function, trees_hold_function, members_hold_function, IsCloneable}
 use Rattle.clone_values.specs.declared.path_types.PathSpec.{PathSpec}
 use Rattle.clone_values.specs.declared.path_types.PathSpec.TheVariants.{One, Many}
-use Rattle.path_grammar.specs.KeyPath.{parts_of, is_identifier, is_path_string, is_key_path}
+use Rattle.path_grammar.specs.KeyPath.{parts_of, is_key_path}
+use Rattle.path_grammar.proofs.Laws.{few_parts}
 use Rattle.clone_values.specs.KeyValues.{value_of_key, values_of_keys, key_depth}
-use Rattle.key_paths.specs.Evaluation.{properties_of}
-use Rattle.key_paths.specs.Injection.{held, with_properties, placed, injected}
+use Rattle.key_paths.specs.Evaluation.{named_properties}
+use Rattle.key_paths.specs.Injection.{held_under, with_properties, placed, injected}
 use Rattle.key_paths.proofs.KeysFound.{same_depth}
 
-members_back : (ms : Members) → members_of (list_of_members ms) ≡ ms
+pub members_back : (ms : Members) → members_of (list_of_members ms) ≡ ms
 members_back no_members = refl
 members_back (member_more n t ms) = ap (member_more n t) (members_back ms)
 
@@ -34,7 +32,7 @@ set_depth (m ∷ ms) n w =
       | Greater ↦ omega arith
     ]
 
-held_depth : (ms : List (List ℕ × Tree)) (n : List ℕ) → depth_of (held n ms) ≤ max (members_depth (members_of ms)) 1
+held_depth : (ms : List (List ℕ × Tree)) (n : List ℕ) → depth_of (held_under n ms) ≤ max (members_depth (members_of ms)) 1
 held_depth [] n = omega arith
 held_depth (m ∷ ms) n =
     let rest = held_depth ms n in
@@ -48,7 +46,7 @@ with_depth (array ts ms) ps = omega arith
 with_depth (object ms) ps = omega arith
 with_depth _ ps = omega arith
 
-properties_depth : (t : Tree) → 1 + members_depth (members_of (properties_of t)) ≤ depth_of t
+properties_depth : (t : Tree) → 1 + members_depth (members_of (named_properties t)) ≤ depth_of t
 properties_depth (array ts ms) = omega (arith, ap members_depth (members_back ms))
 properties_depth (object ms) = omega (arith, ap members_depth (members_back ms))
 properties_depth _ = omega arith
@@ -56,9 +54,9 @@ properties_depth _ = omega arith
 placed_depth : (ns : List (List ℕ)) (t v : Tree) → 1 ≤ depth_of v → depth_of (placed ns t v) ≤ max (depth_of t) (length ns + depth_of v)
 placed_depth [] t v h = omega arith
 placed_depth (n ∷ ns) t v h =
-    let ms = properties_of t in
-    let w = placed ns (held n ms) v in
-    omega (arith, with_depth t (set_member ms n w), set_depth ms n w, placed_depth ns (held n ms) v h, held_depth ms n, properties_depth t)
+    let ms = named_properties t in
+    let w = placed ns (held_under n ms) v in
+    omega (arith, with_depth t (set_member ms n w), set_depth ms n w, placed_depth ns (held_under n ms) v h, held_depth ms n, properties_depth t)
 
 -- ---- Functions
 neither : (a b : Bool) → a ≡ false → b ≡ false → (a || b) ≡ false
@@ -84,7 +82,7 @@ set_none (m ∷ ms) n w h g =
       | Greater ↦ neither (holds_function m.1) _ first (set_none ms n w rest g)
     ]
 
-held_none : (ms : List (List ℕ × Tree)) (n : List ℕ) → members_hold_function (members_of ms) ≡ false → holds_function (held n ms) ≡ false
+held_none : (ms : List (List ℕ × Tree)) (n : List ℕ) → members_hold_function (members_of ms) ≡ false → holds_function (held_under n ms) ≡ false
 held_none [] n h = refl
 held_none (m ∷ ms) n h =
     elim (pointwise nat_eq m.0 n) as (λ b. holds_function (unwrap_or (option_map (λ p. p.1) (cond b (Some m) (find (λ p. pointwise nat_eq p.0 n) ms))) (object no_members)) ≡ false) [
@@ -97,7 +95,7 @@ with_none (array ts ms) ps h g = neither (trees_hold_function ts) _ (no_first (t
 with_none (object ms) ps h g = g
 with_none _ ps h g = h
 
-properties_none : (t : Tree) → holds_function t ≡ false → members_hold_function (members_of (properties_of t)) ≡ false
+properties_none : (t : Tree) → holds_function t ≡ false → members_hold_function (members_of (named_properties t)) ≡ false
 properties_none (array ts ms) h = ap members_hold_function (members_back ms) ∙ no_second (trees_hold_function ts) (members_hold_function ms) h
 properties_none (object ms) h = ap members_hold_function (members_back ms) ∙ h
 properties_none _ h = refl
@@ -105,9 +103,9 @@ properties_none _ h = refl
 placed_none : (ns : List (List ℕ)) (t v : Tree) → holds_function t ≡ false → holds_function v ≡ false → holds_function (placed ns t v) ≡ false
 placed_none [] t v h g = g
 placed_none (n ∷ ns) t v h g =
-    let ms = properties_of t in
+    let ms = named_properties t in
     let none = properties_none t h in
-    with_none t (set_member ms n (placed ns (held n ms) v)) h (set_none ms n (placed ns (held n ms) v) none (placed_none ns (held n ms) v (held_none ms n none) g))
+    with_none t (set_member ms n (placed ns (held_under n ms) v)) h (set_none ms n (placed ns (held_under n ms) v) none (placed_none ns (held_under n ms) v (held_none ms n none) g))
 
 mutual
   key_none : (k : KeyTree) → holds_function (value_of_key k) ≡ false
@@ -121,18 +119,13 @@ mutual
   keys_none no_keys = refl
   keys_none (key_more k ks) = neither (holds_function (value_of_key k)) (trees_hold_function (values_of_keys ks)) (key_none k) (keys_none ks)
 
+pub key_cloneable : (k : KeyTree) → key_depth k ≤ 100 → IsCloneable (value_of_key k)
+key_cloneable k h = (key_none k, omega (arith, same_depth k))
+
 -- ---- the path
 some_depth : (k : KeyTree) → 1 ≤ key_depth k
 some_depth (keys_array ks) = omega arith
 some_depth _ = omega arith
-
-few_parts : (s : List ℕ) → is_path_string s ≡ true → length (parts_of s) ≤ 99
-few_parts [] h = omega arith
-few_parts (b ∷ bs) h =
-    let few = nat_le (length (parts_of (b ∷ bs))) 99 in
-    let all = list_all (λ p. is_identifier (chars p)) (parts_of (b ∷ bs)) in
-    let full : (length (b ∷ bs) == 0) ≡ false = grind (arith, common_steps) in
-    leb-true _ _ (first_so few all (ap (λ e. e || (few && all)) (sym full) ∙ h))
 
 pub stays_cloneable : (path : PathSpec) (t : Tree) (k : KeyTree) → is_key_path path ≡ true → key_depth k ≤ 1 → IsCloneable t → IsCloneable (injected path t k)
 stays_cloneable (One s) t k p h c =

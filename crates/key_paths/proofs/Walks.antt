@@ -1,7 +1,7 @@
 -- Evaluation part by part.
 --     part_fails, part_found      what the next part of a list adds
 --     one_step, more_steps        a string cut at its first full stop
-use Rattle.std.proofs.Common.{◌≡◌, ℕ, ◌<◌, ◌≤◌, ◌==◌, Bool, true, false, ◌&&◌, List, [], ◌∷◌, ◌++◌, length, map, Option, Some, None, option_map, ℤ, refl, sym, ◌∙◌, ap, arith, append_assoc}
+use Rattle.std.proofs.Common.{◌≡◌, ℕ, ◌<◌, ◌≤◌, ◌==◌, Bool, true, false, ◌&&◌, List, [], ◌∷◌, ◌++◌, ◌+◌, length, length-take, length-drop, map, Option, Some, None, option_map, ℤ, refl, sym, ◌∙◌, ap, arith, append_assoc}
 use Rattle.std.proofs.lemmas.List.{map-append, append-nil}
 use Rattle.std.specs.Prelude.{if◌then◌else◌}
 use Rattle.std.specs.List.{position_or_len, before_first, after_first}
@@ -10,7 +10,7 @@ use Rattle.clone_values.specs.Tree.{Tree, undefined, null, boolean, int, text, d
 use Rattle.clone_values.specs.View.{tree_of}
 use Rattle.clone_values.specs.declared.value_types.Value.{Value}
 use Rattle.path_grammar.specs.KeyPath.{parts_of}
-use Rattle.path_grammar.proofs.PathParts.{parts_cut, one_part, some_part}
+use Rattle.path_grammar.proofs.Laws.{parts_cut, one_part, some_part}
 use Rattle.key_paths.specs.Evaluation.{all_there, walked, step_of, takes_length, length_of, property_of, is_length}
 
 -- ---- a list of strings; vs are the values so far
@@ -66,6 +66,12 @@ pub one_step : (s : List ℕ) (t : Tree) → position_or_len (λ b. b == 46) s �
 one_step s t h = ends (step_of s t) ∙ ap (λ ps. walked ps t) (sym (one_part s h))
 
 module _ (s name more : List ℕ) (cut : position_or_len (λ b. b == 46) s < length s) (front : name ≡ before_first (λ b. b == 46) s) (back : more ≡ after_first (λ b. b == 46) s) where
+  pub name_short : length name ≤ length s
+  name_short = omega (arith, ap length front, length-take (position_or_len (λ b. b == 46) s) s)
+
+  pub more_shorter : length more < length s
+  more_shorter = omega (arith, ap length back, length-drop (position_or_len (λ b. b == 46) s + 1) s, cut)
+
   pub cut_parts : parts_of s ≡ name ∷ parts_of more
   cut_parts = rw (front, back) (parts_cut s cut)
 

@@ -1,7 +1,7 @@
--- Conversion of values to keys and back (Indexed Database API 3.0, 7.3 and 7.4).
+-- Conversion of values to keys and back (Indexed Database API 3.0, "convert a value to a key", "convert a key to a value").
 --     key_of                the key of a value, or none where the value is invalid
 --     keys_of               the keys of a list of items, each once: multi-entry conversion
-use Rattle.std.specs.Prelude.{◌≢◌, not, nat_le, List, [], ◌∷◌, if◌then◌else◌, Option, Some, None, option_map}
+use Rattle.std.specs.Prelude.{◌≢◌, Bool, true, false, ◌&&◌, not, nat_le, List, [], ◌∷◌, if◌then◌else◌, Option, Some, None, option_map}
 use Rattle.std.specs.List.{All, filter, filter_map}
 use Rattle.std.specs.Ordering.{is_eq}
 use Rattle.clone_values.specs.Tree.{Tree, Trees, int, date, text, bytes, array, no_trees, tree_more}
@@ -29,9 +29,27 @@ abbrev mutual
   keys_within no_trees = Some no_keys
   keys_within (tree_more t ts) = with_first (key_within t) (keys_within ts)
 
+-- whether the value converts, but for its depth
+abbrev mutual
+  pub is_convertible : Tree → Bool
+  is_convertible (int n) = true
+  is_convertible (date d) = true
+  is_convertible (text s) = true
+  is_convertible (bytes b) = true
+  is_convertible (array ts ms) = are_convertible ts
+  is_convertible _ = false
+
+  pub are_convertible : Trees → Bool
+  are_convertible no_trees = true
+  are_convertible (tree_more t ts) = is_convertible t && are_convertible ts
+
 -- a value deeper than 100 is invalid
 abbrev pub key_of : Tree → Option KeyTree
 key_of t = if nat_le (depth_of t) 100 then key_within t else None
+
+-- whether an Array with this item can have a key
+abbrev pub fits_in_array : Tree → Bool
+fits_in_array t = is_convertible t && nat_le (depth_of t) 99
 
 -- each key once, at its first place
 abbrev pub each_once : List KeyTree → List KeyTree
@@ -43,6 +61,6 @@ abbrev pub keys_of : List Tree → List KeyTree
 keys_of ts = each_once (filter_map key_of ts)
 
 -- no key stands twice
-abbrev pub AreDistinct : List KeyTree → Type 0
-AreDistinct [] = Unit {0}
-AreDistinct (k ∷ ks) = All (λ j. j ≢ k) ks × AreDistinct ks
+abbrev pub AreDistinctKeys : List KeyTree → Type 0
+AreDistinctKeys [] = Unit {0}
+AreDistinctKeys (k ∷ ks) = All (λ j. j ≢ k) ks × AreDistinctKeys ks

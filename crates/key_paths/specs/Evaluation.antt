@@ -1,11 +1,14 @@
--- Evaluation of key paths, and extraction of keys (Indexed Database API 3.0, 7.1).
+-- Evaluation of key paths, and extraction of keys (Indexed Database API 3.0, "extract a key from a value using a key path").
 --     evaluated             the value that a key path gives on a value, or none: failure
+--     Extract, AreKeys      what an extraction comes to; its keys are well formed
 --     extracted             the key or keys that a key path and the multi-entry flag give
-use Rattle.std.specs.Prelude.{◌==◌, ◌&&◌, nat_eq, ℕ, Bool, pos, List, [], ◌∷◌, length, map, codes, if◌then◌else◌, Option, Some, None, option_map}
+use Rattle.std.specs.Prelude.{⊤, ◌==◌, ◌&&◌, nat_eq, ℕ, Bool, pos, List, [], ◌∷◌, length, map, codes, if◌then◌else◌, Option, Some, None, option_map}
 use Rattle.std.specs.Option.{is_some, option_and_then}
 use Rattle.std.specs.Cmp.Lexicographic.{pointwise}
 use Rattle.clone_values.specs.Tree.{Tree, undefined, int, text, array, object, no_members, trees_of, list_of_trees, list_of_members}
 use Rattle.clone_values.specs.KeyTree.{KeyTree}
+use Rattle.std.specs.List.{All}
+use Rattle.clone_values.specs.KeyValues.{IsKey}
 use Rattle.clone_values.specs.Names.{get_member}
 use Rattle.clone_values.specs.declared.path_types.PathSpec.{PathSpec}
 use Rattle.clone_values.specs.declared.path_types.PathSpec.TheVariants.{One, Many}
@@ -24,10 +27,10 @@ length_of (array ts ms) = Some (int (pos (length (list_of_trees ts))))
 length_of _ = None
 
 -- the named properties of an Object or Array; nothing else has any
-abbrev pub properties_of : Tree → List (List ℕ × Tree)
-properties_of (array ts ms) = list_of_members ms
-properties_of (object ms) = list_of_members ms
-properties_of _ = []
+abbrev pub named_properties : Tree → List (List ℕ × Tree)
+named_properties (array ts ms) = list_of_members ms
+named_properties (object ms) = list_of_members ms
+named_properties _ = []
 
 -- a property that is Undefined counts as missing
 abbrev pub unless_undefined : Option Tree → Option Tree
@@ -36,7 +39,7 @@ unless_undefined o = o
 
 -- the value of the property of that name
 abbrev pub property_of : List ℕ → Tree → Option Tree
-property_of n t = unless_undefined (get_member (properties_of t) n)
+property_of n t = unless_undefined (get_member (named_properties t) n)
 
 -- whether this identifier is `length`, of a Text or an Array
 abbrev pub takes_length : List ℕ → Tree → Bool
@@ -76,6 +79,13 @@ pub data Extract : Type 0 where
 abbrev pub one_or_invalid : Option KeyTree → Extract
 one_or_invalid (Some k) = one k
 one_or_invalid None = invalid
+
+-- the key, or each of the keys, is well formed
+abbrev pub AreKeys : Extract → Type 0
+AreKeys (one k) = IsKey k
+AreKeys (many ks) = All IsKey ks
+AreKeys invalid = ⊤
+AreKeys failure = ⊤
 
 -- multi-entry conversion is for an Array alone
 abbrev pub converted : Bool → Tree → Extract

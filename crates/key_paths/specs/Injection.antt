@@ -1,4 +1,4 @@
--- Injection of a key into a value (Indexed Database API 3.0, 7.2).
+-- Injection of a key into a value (Indexed Database API 3.0, "inject a key into a value using a key path").
 --     can_inject            whether a key could be injected
 --     injected              the value with the key's value put in
 --     has_room_for          the list of properties that gets a member has room for it
@@ -10,7 +10,7 @@ use Rattle.clone_values.specs.declared.path_types.PathSpec.{PathSpec}
 use Rattle.clone_values.specs.declared.path_types.PathSpec.TheVariants.{One, Many}
 use Rattle.path_grammar.specs.KeyPath.{parts_of}
 use Rattle.clone_values.specs.KeyValues.{value_of_key}
-use Rattle.key_paths.specs.Evaluation.{takes_length, properties_of}
+use Rattle.key_paths.specs.Evaluation.{takes_length, named_properties}
 
 -- an Object or an Array, and nothing else
 abbrev pub is_holder : Tree → Bool
@@ -28,7 +28,7 @@ all_but_last (n ∷ m ∷ ns) = n ∷ all_but_last (m ∷ ns)
 -- length of an Array
 abbrev pub ends_at_holder : List (List ℕ) → Tree → Bool
 ends_at_holder [] t = is_holder t
-ends_at_holder (n ∷ ns) t = is_holder t && not (takes_length n t) && unwrap_or (option_map (ends_at_holder ns) (get_member (properties_of t) n)) true
+ends_at_holder (n ∷ ns) t = is_holder t && not (takes_length n t) && unwrap_or (option_map (ends_at_holder ns) (get_member (named_properties t) n)) true
 
 -- whether a key could be injected by this path: by the empty string or a list never
 abbrev pub can_inject : PathSpec → Tree → Bool
@@ -42,13 +42,13 @@ with_properties (object ms) ps = object (members_of ps)
 with_properties t ps = t
 
 -- what the property of that name holds; where it is missing, a new Object
-abbrev pub held : List ℕ → List (List ℕ × Tree) → Tree
-held n ms = unwrap_or (get_member ms n) (object no_members)
+abbrev pub held_under : List ℕ → List (List ℕ × Tree) → Tree
+held_under n ms = unwrap_or (get_member ms n) (object no_members)
 
 -- with the value at the end of these identifiers, and the missing Objects made
 abbrev pub placed : List (List ℕ) → Tree → Tree → Tree
 placed [] t v = v
-placed (n ∷ ns) t v = with_properties t (set_member (properties_of t) n (placed ns (held n (properties_of t)) v))
+placed (n ∷ ns) t v = with_properties t (set_member (named_properties t) n (placed ns (held_under n (named_properties t)) v))
 
 -- with the key's value at the end of the path
 abbrev pub injected : PathSpec → Tree → KeyTree → Tree
@@ -58,7 +58,7 @@ injected (Many ss) t k = t
 -- where the walk comes to a missing property, its list has room for one more
 abbrev pub has_room_along : List (List ℕ) → Tree → Bool
 has_room_along [] t = true
-has_room_along (n ∷ ns) t = unwrap_or (option_map (has_room_along ns) (get_member (properties_of t) n)) (nat_lt (length (properties_of t)) 4294967295)
+has_room_along (n ∷ ns) t = unwrap_or (option_map (has_room_along ns) (get_member (named_properties t) n)) (nat_lt (length (named_properties t)) 4294967295)
 
 -- the list of properties that gets a member stays within its greatest size
 abbrev pub has_room_for : PathSpec → Tree → Bool
@@ -72,7 +72,7 @@ ends_in (n ∷ ns) ms = unwrap_or (option_map (ends_at_holder ns) (get_member ms
 
 abbrev pub placed_in : List (List ℕ) → List (List ℕ × Tree) → Tree → List (List ℕ × Tree)
 placed_in [] ms v = ms
-placed_in (n ∷ ns) ms v = set_member ms n (placed ns (held n ms) v)
+placed_in (n ∷ ns) ms v = set_member ms n (placed ns (held_under n ms) v)
 
 abbrev pub has_room_in : List (List ℕ) → List (List ℕ × Tree) → Bool
 has_room_in [] ms = true

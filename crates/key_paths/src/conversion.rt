@@ -1,27 +1,79 @@
 // Conversion of values to keys, and of keys to values.
-ghost use Rattle.std.specs.Prelude.{◌≡◌, ℕ, ◌≤◌, List, Some, option_map, IfOk, IfSome};
+ghost use Rattle.std.specs.Prelude.{◌≡◌, ℕ, ◌≤◌, true, List, Some, None, is_some, option_map, IfOk, IfSome, IsOk};
 ghost use Rattle.std.specs.List.{All};
 ghost use Rattle.clone_values.specs.Tree.{Tree, trees_of};
 ghost use Rattle.clone_values.specs.KeyTree.{KeyTree, key_trees_of};
 ghost use Rattle.clone_values.specs.View.{tree_of, key_tree_of};
-ghost use Rattle.key_paths.specs.Conversion.{key_of, key_within, keys_within, keys_of, AreDistinct};
-ghost use Rattle.clone_values.specs.KeyValues.{value_of_key, values_of_keys, key_depth};
+ghost use Rattle.key_paths.specs.Conversion.{key_of, key_within, keys_within, is_convertible, are_convertible, fits_in_array, keys_of, AreDistinctKeys};
+ghost use Rattle.clone_values.specs.KeyValues.{IsKey, value_of_key, values_of_keys, key_depth};
+ghost use Rattle.clone_values.specs.WellFormed.{IsValue, are_values};
+ghost use Rattle.clone_values.specs.Values.{IsCloneable};
 
-use clone_values::{Items, Key, Keys, NoMemory, Props, Value, depth};
+use clone_values::{Items, Key, Keys, Props, Value, depth};
+use idb_base::{GREATEST_DEPTH, NoMemory};
 use std::alloc::Global;
 
-/// The deepest value that converts.
-const DEEPEST: u32 = 100;
-
-/// The key of a value; `None` where it is invalid, before any memory is asked for where it is too deep
-/// (Indexed Database API 3.0, 7.4, "convert a value to a key").
+/// The key of a value; `None` where it is invalid, before any memory is asked for (Indexed Database API 3.0, "convert a
+/// value to a key").
 pub fn to_key(alloc: Global, v: &Value) -> Result<Option<Key>, NoMemory>
-    ensures { IfOk result (λ r. option_map key_tree_of r ≡ key_of (tree_of v.now)) }
+    ensures key { IfOk result (λ r. option_map key_tree_of r ≡ key_of (tree_of v.now)) }
+    ensures refused { key_of (tree_of v.now) ≡ None → IsOk result }
 {
-    if depth(v) > DEEPEST {
+    if !is_key(v) {
         return Ok(None);
     }
     key_within(alloc, v)
+}
+
+/// Whether the value has a key; it takes no memory.
+#[tactic(auto, using(crate::proofs::Convertible::array_decided))]
+pub fn is_key(v: &Value) -> bool
+    ensures { result ≡ is_some (key_of (tree_of v.now)) }
+{
+    match v {
+        Value::Int(_) | Value::Date(_) | Value::Text(_) | Value::Bytes(_) => true,
+        Value::Array(items, _) => depth(v) as usize <= GREATEST_DEPTH && are_convertible(items),
+        _ => false,
+    }
+}
+
+/// Whether an Array with this item can have a key.
+pub(crate) fn fits_in_array(v: &Value) -> bool
+    ensures { result ≡ fits_in_array (tree_of v.now) }
+{
+    match v {
+        Value::Int(_) | Value::Date(_) | Value::Text(_) | Value::Bytes(_) => true,
+        Value::Array(items, _) => (depth(v) as usize) < GREATEST_DEPTH && are_convertible(items),
+        _ => false,
+    }
+}
+
+/// Whether the value is of a kind that converts, as are all items in it, however deep.
+#[cycle(convertible)]
+#[tactic(auto, using(clone_values::specs::Falls::smaller_tree))]
+pub(crate) fn is_convertible(v: &Value) -> bool
+    ensures { result ≡ is_convertible (tree_of v.now) }
+{
+    match v {
+        Value::Int(_) | Value::Date(_) | Value::Text(_) | Value::Bytes(_) => true,
+        Value::Array(items, _) => are_convertible(items),
+        _ => false,
+    }
+}
+
+#[cycle(convertible)]
+#[tactic(auto, using(clone_values::specs::Falls::smaller_tree))]
+fn are_convertible(items: &Items) -> bool
+    ensures { result ≡ are_convertible (trees_of items.now) }
+{
+    for place in 0..items.len() {
+        if let Some(item) = items.at(place) {
+            if !is_convertible(item) {
+                return false;
+            }
+        }
+    }
+    true
 }
 
 #[cycle(to_key)]
@@ -56,10 +108,10 @@ fn keys_within(alloc: Global, items: &Items) -> Result<Option<Keys>, NoMemory>
             }
         }
     }
-    Ok(Some(Keys::from_vec(keys)))
+    Ok(Some(Keys::from_vec(alloc, keys)?))
 }
 
-/// The value of a key (Indexed Database API 3.0, 7.3, "convert a key to a value").
+/// The value of a key (Indexed Database API 3.0, "convert a key to a value").
 #[cycle(to_value)]
 #[tactic(auto, using(clone_values::specs::Falls::smaller_key))]
 pub fn to_value(alloc: Global, key: &Key) -> Result<Value, NoMemory>
@@ -88,14 +140,21 @@ fn values_of(alloc: Global, keys: &Keys) -> Result<Items, NoMemory>
             items.push(to_value(alloc, key)?)?;
         }
     }
-    Ok(Items::from_vec(items))
+    Ok(Items::from_vec(alloc, items)?)
 }
 
 /// The laws of conversion: the key of a key's value is that key, for every key that is at most 100 deep; every key of a
-/// value and of an item is at most 100 deep; multi-entry conversion gives no key twice.
+/// value and of an item is at most 100 deep, and well formed where the value is; multi-entry conversion gives no key
+/// twice; the value of a well formed key is well formed, and can be cloned where the key is at most 100 deep.
 pub fn conversion_laws()
-    ensures again { (k : KeyTree) → key_depth k ≤ 100 → key_of (value_of_key k) ≡ Some k }
-    ensures shallow { (t : Tree) → IfSome (key_of t) (λ k. key_depth k ≤ 100) }
-    ensures all_shallow { (ts : List Tree) → All (λ k. key_depth k ≤ 100) (keys_of ts) }
-    ensures once { (ts : List Tree) → AreDistinct (keys_of ts) }
+    ensures again { (k : KeyTree) → key_depth k ≤ GREATEST_DEPTH → key_of (value_of_key k) ≡ Some k }
+    ensures shallow { (t : Tree) → IfSome (key_of t) (λ k. key_depth k ≤ GREATEST_DEPTH) }
+    ensures all_shallow { (ts : List Tree) → All (λ k. key_depth k ≤ GREATEST_DEPTH) (keys_of ts) }
+    ensures once { (ts : List Tree) → AreDistinctKeys (keys_of ts) }
+
+    // well formed
+    ensures key { (t : Tree) → IsValue t → IfSome (key_of t) IsKey }
+    ensures keys { (ts : List Tree) → are_values (trees_of ts) ≡ true → All IsKey (keys_of ts) }
+    ensures value { (k : KeyTree) → IsKey k → IsValue (value_of_key k) }
+    ensures cloneable { (k : KeyTree) → key_depth k ≤ GREATEST_DEPTH → IsCloneable (value_of_key k) }
 {}

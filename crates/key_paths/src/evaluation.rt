@@ -5,74 +5,102 @@ ghost use Rattle.clone_values.specs.View.{tree_of};
 ghost use Rattle.clone_values.specs.declared.path_types.PathSpec.TheVariants.{Many};
 ghost use Rattle.key_order.specs.KeyOrder.{code_units};
 ghost use Rattle.path_grammar.specs.KeyPath.{parts_of};
+ghost use Rattle.key_paths.specs.View.{value_found};
 ghost use Rattle.key_paths.specs.Evaluation.{evaluated, string_evaluated, walked, step_of, takes_length, property_of, unless_undefined, length_of};
 
-use clone_values::{Items, NoMemory, PathSpec, Props, Texts, Value, copy_value};
+use clone_values::{Items, PathSpec, Props, Texts, Value, copy_value};
+use idb_base::NoMemory;
 use path_grammar::KeyPath;
 use std::alloc::Global;
 
+/// What a string of a key path gives on a value; nothing is copied.
+#[derive(Clone, Copy)]
+pub(crate) enum Found<'a> {
+    /// A part of the value, or the value.
+    Part(&'a Value),
+    /// How many code units a Text has, or items an Array.
+    Length(i64),
+    Nothing,
+}
+
 /// The value that a key path gives on a value, as a copy; `None` exactly where it gives none, which is failure
-/// (Indexed Database API 3.0, 7.1, "evaluate a key path on a value").
+/// (Indexed Database API 3.0, "evaluate a key path on a value").
 pub fn evaluate(alloc: Global, path: &KeyPath, v: &Value) -> Result<Option<Value>, NoMemory>
     ensures { IfOk result (λ r. option_map tree_of r ≡ evaluated path.now (tree_of v.now)) }
 {
     match path.spec() {
-        PathSpec::One(string) => evaluate_string(alloc, string.as_str(), v),
+        PathSpec::One(string) => copied(alloc, string_found(string.as_str(), v)),
         PathSpec::Many(strings) => evaluate_list(alloc, strings, v),
     }
 }
 
-fn evaluate_list(alloc: Global, strings: &Texts, v: &Value) -> Result<Option<Value>, NoMemory>
+pub(crate) fn evaluate_list(
+    alloc: Global,
+    strings: &Texts,
+    v: &Value,
+) -> Result<Option<Value>, NoMemory>
     ensures { IfOk result (λ r. option_map tree_of r ≡ evaluated (Many strings.now) (tree_of v.now)) }
 {
     let mut values = Vec::new(alloc);
     for place in 0..strings.len() {
         if let Some(string) = strings.at(place) {
-            match evaluate_string(alloc, string.as_str(), v)? {
+            match copied(alloc, string_found(string.as_str(), v))? {
                 Some(value) => values.push(value)?,
                 None => return Ok(None),
             }
         }
     }
-    Ok(Some(Value::Array(Items::from_vec(values), Props::new(alloc))))
+    let items = Items::from_vec(alloc, values)?;
+    Ok(Some(Value::Array(items, Props::new(alloc))))
 }
 
-fn evaluate_string(alloc: Global, s: &str, v: &Value) -> Result<Option<Value>, NoMemory>
-    ensures { IfOk result (λ r. option_map tree_of r ≡ string_evaluated s.now (tree_of v.now)) }
+fn copied(alloc: Global, found: Found) -> Result<Option<Value>, NoMemory>
+    ensures { IfOk result (λ r. option_map tree_of r ≡ value_found found.entry) }
+{
+    match found {
+        Found::Part(v) => Ok(Some(copy_value(alloc, v)?)),
+        Found::Length(n) => Ok(Some(Value::Int(n))),
+        Found::Nothing => Ok(None),
+    }
+}
+
+/// What one string of a key path gives.
+pub(crate) fn string_found<'a>(s: &str, v: &'a Value) -> Found<'a>
+    ensures { value_found result ≡ string_evaluated s.now (tree_of v.now) }
 {
     if s.is_empty() {
-        return Ok(Some(copy_value(alloc, v)?));
+        return Found::Part(v);
     }
-    walk(alloc, s, v)
+    walk(s, v)
 }
 
-/// Goes one identifier further at each call; what it comes to is copied. A length has no properties.
-fn walk(alloc: Global, s: &str, v: &Value) -> Result<Option<Value>, NoMemory>
-    ensures { IfOk result (λ r. option_map tree_of r ≡ walked (parts_of s.now) (tree_of v.now)) }
+/// Goes one identifier further at each call. A length has no properties.
+fn walk<'a>(s: &str, v: &'a Value) -> Found<'a>
+    ensures { value_found result ≡ walked (parts_of s.now) (tree_of v.now) }
 {
     match s.split_once('.') {
-        None => step(alloc, s, v),
+        None => step(s, v),
         Some((name, more)) => {
             if takes_length(name, v) {
-                return Ok(None);
+                return Found::Nothing;
             }
             match property(name, v) {
-                Some(inner) => walk(alloc, more, inner),
-                None => Ok(None),
+                Some(inner) => walk(more, inner),
+                None => Found::Nothing,
             }
         }
     }
 }
 
-fn step(alloc: Global, name: &str, v: &Value) -> Result<Option<Value>, NoMemory>
-    ensures { IfOk result (λ r. option_map tree_of r ≡ step_of name.now (tree_of v.now)) }
+fn step<'a>(name: &str, v: &'a Value) -> Found<'a>
+    ensures { value_found result ≡ step_of name.now (tree_of v.now) }
 {
     if takes_length(name, v) {
-        return Ok(length_of(v));
+        return length_of(v);
     }
     match property(name, v) {
-        Some(inner) => Ok(Some(copy_value(alloc, inner)?)),
-        None => Ok(None),
+        Some(inner) => Found::Part(inner),
+        None => Found::Nothing,
     }
 }
 
@@ -93,7 +121,7 @@ fn has_length(v: &Value) -> bool
 }
 
 /// The named property, unless it is missing or Undefined.
-#[tactic(auto, using(clone_values::proofs::Lists::members_again))]
+#[tactic(auto, using(clone_values::proofs::Laws::members_again))]
 fn property<'a>(name: &str, v: &'a Value) -> Option<&'a Value>
     ensures { option_map tree_of (option_copied result) ≡ property_of name.now (tree_of v.now) }
 {
@@ -104,7 +132,8 @@ fn property<'a>(name: &str, v: &'a Value) -> Option<&'a Value>
 }
 
 fn unless_undefined(found: Option<&Value>) -> Option<&Value>
-    ensures { option_map tree_of (option_copied result) ≡ unless_undefined (option_map tree_of (option_copied found.entry)) }
+    ensures { option_map tree_of (option_copied result)
+        ≡ unless_undefined (option_map tree_of (option_copied found.entry)) }
 {
     match found {
         Some(Value::Undefined) | None => None,
@@ -113,14 +142,14 @@ fn unless_undefined(found: Option<&Value>) -> Option<&Value>
 }
 
 /// What `length` gives on a Text or an Array.
-#[tactic(auto, using(clone_values::proofs::Lists::trees_again))]
-fn length_of(v: &Value) -> Option<Value>
-    ensures { option_map tree_of result ≡ length_of (tree_of v.now) }
+#[tactic(auto, using(clone_values::proofs::Laws::trees_again))]
+fn length_of(v: &Value) -> Found
+    ensures { value_found result ≡ length_of (tree_of v.now) }
 {
     match v {
-        Value::Text(s) => Some(Value::Int(count_code_units(s.as_str()) as i64)),
-        Value::Array(items, _) => Some(Value::Int(items.len() as i64)),
-        _ => None,
+        Value::Text(s) => Found::Length(count_code_units(s.as_str()) as i64),
+        Value::Array(items, _) => Found::Length(items.len() as i64),
+        _ => Found::Nothing,
     }
 }
 

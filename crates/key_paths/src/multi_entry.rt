@@ -1,15 +1,16 @@
 // Multi-entry conversion: the valid items of an Array as keys, each once.
-ghost use Rattle.std.specs.Prelude.{◌≡◌, Some, map, IfOk, OnOk, refl};
+ghost use Rattle.std.specs.Prelude.{◌≡◌, ◌+◌, ◌≤◌, length, Some, map, IfOk, OnOk, refl};
 ghost use Rattle.clone_values.specs.View.{key_tree_of};
 ghost use Rattle.std.specs.Ordering.{eq_by_cmp};
 ghost use Rattle.std.specs.Cmp.{partial_equiv_from_equiv, eq_by_cmp_equiv, po};
 ghost use Rattle.key_order.specs.KeyOrder.{key_cmp};
-ghost use Rattle.key_order.proofs.KeyLaws.{key_cmp_total};
+ghost use Rattle.key_order.proofs.Laws.{key_cmp_total};
 ghost use Rattle.key_paths.specs.Conversion.{keys_of};
 ghost use Rattle.key_paths.specs.KeysSeen.{with_new, HasExactly};
 
 use crate::conversion::to_key;
-use clone_values::{Items, Key, Keys, NoMemory};
+use clone_values::{Items, Key, Keys};
+use idb_base::NoMemory;
 use key_order::compare;
 use std::alloc::Global;
 use std::cmp::Ordering;
@@ -75,7 +76,7 @@ impl Ord for Ranked {
     }
 }
 
-/// The valid items as keys, in order, each key once, at its first place (Indexed Database API 3.0, 7.4, "convert a
+/// The valid items as keys, in order, each key once, at its first place (Indexed Database API 3.0, "convert a
 /// value to a multiEntry key"). A set of the keys so far finds the repeats.
 pub(crate) fn keys_of(alloc: Global, items: &Items) -> Result<Keys, NoMemory>
     ensures { IfOk result (λ r. r ≡ keys_of items.now) }
@@ -89,7 +90,7 @@ pub(crate) fn keys_of(alloc: Global, items: &Items) -> Result<Keys, NoMemory>
             }
         }
     }
-    Ok(Keys::from_vec(keys))
+    Ok(Keys::from_vec(alloc, keys)?)
 }
 
 /// Puts the key at the end, unless the set, which has the same keys, has it.
@@ -100,7 +101,9 @@ fn keep_new(
     key: Key,
 ) -> Result<(), NoMemory>
     requires { HasExactly seen.old (map key_tree_of keys.old.items) }
-    ensures kept { OnOk result (map key_tree_of keys.new.items ≡ with_new (map key_tree_of keys.old.items) (key_tree_of key)) }
+    ensures kept { OnOk result (map key_tree_of keys.new.items
+        ≡ with_new (map key_tree_of keys.old.items) (key_tree_of key)) }
+    ensures count { OnOk result (length keys.new.items ≤ length keys.old.items + 1) }
     ensures same { OnOk result (HasExactly seen.new (map key_tree_of keys.new.items)) }
 {
     let copy = key.copy(alloc)?;

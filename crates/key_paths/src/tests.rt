@@ -1,20 +1,28 @@
 use super::*;
 use clone_values::{Bytes, Items, Key, Pairs, PathSpec, Props, Text, Texts, Value, same_value};
+use idb_base::GREATEST_LENGTH;
 use path_grammar::KeyPath;
 use std::alloc::Global;
 use std::process::Abort;
 use std::test::Fail;
 
 fn text(alloc: Global, s: &str) -> Result<Text, Fail> {
-    Ok(Text::from_string(String::from_str(alloc, s)?))
+    if s.len() > GREATEST_LENGTH {
+        return Err(Fail::new("a text that is too long"));
+    }
+    Ok(Text::copy_of(alloc, s)?)
 }
 
 fn text_value(alloc: Global, s: &str) -> Result<Value, Fail> {
     Ok(Value::Text(text(alloc, s)?))
 }
 
-fn array(alloc: Global, items: Vec<Value>) -> Value {
-    Value::Array(Items::from_vec(items), Props::new(alloc))
+fn array(alloc: Global, items: Vec<Value>) -> Result<Value, Fail> {
+    if items.len() > GREATEST_LENGTH {
+        return Err(Fail::new("an array that is too long"));
+    }
+    let items = Items::from_vec(alloc, items)?;
+    Ok(Value::Array(items, Props::new(alloc)))
 }
 
 /// The Object or Array with one more property.
@@ -47,9 +55,9 @@ fn object(rt: &impl Abort, alloc: Global, name: &str, inner: Value) -> Result<Va
 
 /// Arrays nested so deep, the innermost one empty.
 fn nested(alloc: Global, depth: u32) -> Result<Value, Fail> {
-    let mut value = array(alloc, Vec::new(alloc));
+    let mut value = array(alloc, Vec::new(alloc))?;
     for _ in 1..depth {
-        value = array(alloc, vec![in alloc; value]?);
+        value = array(alloc, vec![in alloc; value]?)?;
     }
     Ok(value)
 }
@@ -79,7 +87,10 @@ fn is_its_key(alloc: Global, value: &Value) -> Result<bool, Fail> {
 #[test]
 fn values_convert_as_stated(rt: HostRuntime) -> Result<(), Fail> {
     let alloc = rt.alloc();
-    let bytes = Value::Bytes(Bytes::from_vec(vec![in alloc; 0, 255]?));
+    let mut bytes = Bytes::new(alloc);
+    bytes.push(0)?;
+    bytes.push(255)?;
+    let bytes = Value::Bytes(bytes);
     let all = array(
         alloc,
         vec![in alloc;
@@ -88,7 +99,7 @@ fn values_convert_as_stated(rt: HostRuntime) -> Result<(), Fail> {
             text_value(alloc, "x")?,
             bytes,
         ]?,
-    );
+    )?;
     assert!(rt; is_its_key(alloc, &all)?);
     assert!(rt; is_its_key(alloc, &nested(alloc, 100)?)?);
     assert!(rt; to_key(alloc, &nested(alloc, 101)?)?.is_none());
@@ -97,7 +108,7 @@ fn values_convert_as_stated(rt: HostRuntime) -> Result<(), Fail> {
     assert!(rt;
         to_key(
             alloc,
-            &array(alloc, vec![in alloc; Value::Int(1), Value::Null]?)
+            &array(alloc, vec![in alloc; Value::Int(1), Value::Null]?)?
         )?
         .is_none()
     );
@@ -145,7 +156,7 @@ fn keys_are_extracted_as_stated(rt: HostRuntime) -> Result<(), Fail> {
         text_value(alloc, "a")?,
         Value::Null,
     ]?;
-    let Extracted::Many(keys) = extracted(&rt, alloc, true, array(alloc, repeated))? else {
+    let Extracted::Many(keys) = extracted(&rt, alloc, true, array(alloc, repeated)?)? else {
         return Err(Fail::new("not many keys"));
     };
     assert!(rt; keys.len() == 2);
@@ -169,7 +180,7 @@ fn keys_are_extracted_as_stated(rt: HostRuntime) -> Result<(), Fail> {
             Extracted::Failure
         )
     );
-    let whole = array(alloc, vec![in alloc; Value::Int(1), Value::Null]?);
+    let whole = array(alloc, vec![in alloc; Value::Int(1), Value::Null]?)?;
     assert!(rt; matches!(extracted(&rt, alloc, false, whole)?, Extracted::Invalid));
     let nothing = Value::Object(Props::new(alloc));
     assert!(rt;
@@ -200,7 +211,7 @@ fn sample(rt: &impl Abort, alloc: Global) -> Result<Value, Fail> {
     let numbers = vec![in alloc; Value::Int(7), Value::Int(8), Value::Int(9)]?;
     let inner = object(rt, alloc, "c", Value::Int(2))?;
     let inner = with(rt, alloc, inner, "length", Value::Int(5))?;
-    let value = object(rt, alloc, "a", array(alloc, numbers))?;
+    let value = object(rt, alloc, "a", array(alloc, numbers)?)?;
     let value = with(rt, alloc, value, "b", inner)?;
     let value = with(rt, alloc, value, "s", text_value(alloc, "\u{10000}x")?)?;
     with(rt, alloc, value, "u", Value::Undefined)
@@ -242,7 +253,7 @@ fn whole_values_and_lists_are_evaluated(rt: HostRuntime) -> Result<(), Fail> {
     assert!(rt;
         evaluate(alloc, &path(alloc, "")?, &value)?.is_some_and(|v| same_value(&v, &value))
     );
-    let both = array(alloc, vec![in alloc; Value::Int(1), Value::Int(2)]?);
+    let both = array(alloc, vec![in alloc; Value::Int(1), Value::Int(2)]?)?;
     assert!(rt;
         gives(
             alloc,

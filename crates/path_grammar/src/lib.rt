@@ -1,25 +1,27 @@
-// Key paths: the grammar of their strings (Indexed Database API 3.0, 2.5, "valid key path").
+// Key paths: the grammar of their strings (Indexed Database API 3.0, "valid key path").
 //
 // Layers above hold a `KeyPath`, which contracts see as the `PathSpec` that it was read from, always a valid one.
 #![tactic(auto)]
 
-ghost use Rattle.std.specs.Prelude.{◌≡◌, ◌↔◌, nat_le, true, length, IsTrue, IfOk, OnOk, IsErrOf, IsOkUnless, false};
+ghost use Rattle.std.specs.Prelude.{◌≡◌, ◌≤◌, ◌==◌, ◌↔◌, ℕ, List, nat_le, true, length, IsTrue, IfOk, OnOk, IsErrOf, IsOkUnless, false};
 ghost use Rattle.std.specs.List.{list_all};
 ghost use Rattle.std.specs.Str.{chars};
-ghost use Rattle.path_grammar.specs.KeyPath.{starts_identifier, continues_identifier, is_identifier, parts_of, is_path_string, is_key_path};
+ghost use Rattle.path_grammar.specs.KeyPath.{starts_identifier, continues_identifier, is_identifier, parts_of, is_part_name, fits_grammar, is_path_string, is_key_path};
 
-use clone_values::{NoMemory, PathSpec, Texts};
+use clone_values::{PathSpec, Text, Texts};
+use idb_base::NoMemory;
 use std::alloc::Global;
 use std::marker::Model;
 
-/// The most identifiers in one string.
-const IDENTIFIERS: usize = 99;
+/// The greatest number of identifiers in one string.
+pub const GREATEST_PART_COUNT: usize = 99;
 
 /// Why a key path was not read.
 #[derive(Clone, Copy, Debug, PartialEq, Eq)]
 pub enum PathError {
     /// A string is neither empty nor at most 99 identifiers joined by single full stops, or the list is empty.
     Syntax,
+    /// Memory ran out.
     NoMemory,
 }
 
@@ -78,7 +80,7 @@ fn is_key_path(spec: &PathSpec) -> bool
     ensures { result ≡ is_key_path spec.now }
 {
     match spec {
-        PathSpec::One(string) => is_path_string(string.as_str()),
+        PathSpec::One(string) => is_path_string(string),
         PathSpec::Many(strings) => strings.len() != 0 && are_path_strings(strings),
     }
 }
@@ -88,7 +90,7 @@ fn are_path_strings(strings: &Texts) -> bool
 {
     for place in 0..strings.len() {
         if let Some(string) = strings.at(place) {
-            if !is_path_string(string.as_str()) {
+            if !is_path_string(string) {
                 return false;
             }
         }
@@ -97,36 +99,31 @@ fn are_path_strings(strings: &Texts) -> bool
 }
 
 /// Whether the string is a key path.
-fn is_path_string(s: &str) -> bool
-    ensures { result ≡ is_path_string s.now }
+#[tactic(auto, using(crate::proofs::PathParts::is_path))]
+fn is_path_string(string: &Text) -> bool
+    ensures { result ≡ is_path_string string.now }
+{
+    fits_grammar(string.as_str())
+}
+
+fn fits_grammar(s: &str) -> bool
+    ensures { result ≡ fits_grammar s.now }
 {
     s.is_empty() || (has_few_parts(s.as_bytes()) && are_identifiers(s))
 }
 
-/// Whether the full stops make at most 99 parts.
+/// Whether the full stops make few enough parts.
 fn has_few_parts(s: &[u8]) -> bool
-    ensures { result ≡ nat_le (length (parts_of s.now)) 99 }
+    ensures { result ≡ nat_le (length (parts_of s.now)) GREATEST_PART_COUNT }
 {
-    let mut count = 1;
-    for b in s {
-        if *b == b'.' {
-            if count == IDENTIFIERS {
-                return false;
-            }
-            count += 1;
-        }
-    }
-    true
+    s.iter().filter(|b| **b == b'.').count() < GREATEST_PART_COUNT
 }
 
-/// Whether each part is an identifier; it calls itself once a part.
+/// Whether each part is an identifier.
 fn are_identifiers(s: &str) -> bool
     ensures { result ≡ list_all (λ p. is_identifier (chars p)) (parts_of s.now) }
 {
-    match s.split_once('.') {
-        None => is_identifier(s),
-        Some((part, more)) => is_identifier(part) && are_identifiers(more),
-    }
+    s.split('.').all(|part| is_identifier(part))
 }
 
 fn is_identifier(part: &str) -> bool
@@ -134,15 +131,9 @@ fn is_identifier(part: &str) -> bool
 {
     let mut rest = part.chars();
     match rest.next() {
-        Some(c) if starts_identifier(c) => {}
-        _ => return false,
+        Some(first) => starts_identifier(first) && rest.all(|c| continues_identifier(c)),
+        None => false,
     }
-    while let Some(c) = rest.next() {
-        if !continues_identifier(c) {
-            return false;
-        }
-    }
-    true
 }
 
 fn starts_identifier(c: char) -> bool
@@ -156,6 +147,14 @@ fn continues_identifier(c: char) -> bool
 {
     c == '$' || c == '\u{200C}' || c == '\u{200D}' || unicode_ident::is_xid_continue(c)
 }
+
+/// The laws of the parts of a string: there is one, and those of a key path are names for properties.
+pub fn path_grammar_laws()
+    ensures some { (s : List ℕ) → 1 ≤ length (parts_of s) }
+    ensures few { (s : List ℕ) → is_path_string s ≡ true → length (parts_of s) ≤ GREATEST_PART_COUNT }
+    ensures names { (s : List ℕ) → is_path_string s ≡ true → (length s == 0) ≡ false
+        → list_all is_part_name (parts_of s) ≡ true }
+{}
 
 #[cfg(test)]
 mod tests;

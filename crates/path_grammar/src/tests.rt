@@ -1,11 +1,15 @@
 use super::*;
 use clone_values::Text;
+use idb_base::GREATEST_LENGTH;
 use std::alloc::Global;
 use std::process::Abort;
 use std::test::Fail;
 
 fn text(alloc: Global, s: &str) -> Result<Text, Fail> {
-    Ok(Text::from_string(String::from_str(alloc, s)?))
+    if s.len() > GREATEST_LENGTH {
+        return Err(Fail::new("a text that is too long"));
+    }
+    Ok(Text::copy_of(alloc, s)?)
 }
 
 /// So many times `a`, joined by full stops.
@@ -14,7 +18,7 @@ fn joined(alloc: Global, count: u32) -> Result<Text, Fail> {
     for _ in 1..count {
         s.push_str(".a")?;
     }
-    Ok(Text::from_string(s))
+    text(alloc, s.as_str())
 }
 
 fn texts(rt: &impl Abort, alloc: Global, all: &[&str]) -> Result<Texts, Fail> {

@@ -10,9 +10,10 @@ use Rattle.std.proofs.lemmas.Slice.Eq.{bytes_eq-Decides}
 use Rattle.serde_json.specs.Data.{Data, null, boolean, number, string, array, object, Items, no_items, item}
 use Rattle.serde_json.specs.Events.{members_len}
 use Rattle.serde_json.specs.Find.{as_array, as_str, get_member}
-use Rattle.script_model.specs.Document.{member_of, text_of, int_of, single_of}
-use Rattle.script_model.specs.FirstForm.{AreDistinct, IsStep, AreSteps, IsOpen, IsCreation, IsTransaction, AreFirstBlocks, IsFirstDocument, IsFirst}
-use Rattle.script_model.specs.Reading.{given, is_text, says, put_in, get_in, step_in, steps_in, open_in, creation_in, transaction_in, are_distinct, body_in, blocks_in, first_in, Gives}
+use Rattle.script_model.specs.Document.{member_of, text_member, int_of, single_of}
+use Rattle.script_model.specs.FirstForm.{DifferPairwise, IsStep, AreSteps, IsOpen, IsCreation, IsTransaction, AreFirstBlocks, IsFirstDocument, IsFirst}
+use Rattle.script_model.specs.Reading.{where_true, says_text, says, put_in, get_in, step_in, steps_in, open_in, creation_in, transaction_in, differ_pairwise, body_in, blocks_in, first_in, RefusesFirst}
+use Rattle.idb_base.specs.Results.{Gives}
 use Rattle.script_model.specs.declared.first.FirstError.{FirstError}
 use Rattle.script_model.specs.declared.first.FirstError.TheVariants.{NotBuilt, NoMemory}
 use Rattle.script_model.specs.declared.first.FirstScript.{FirstScript}
@@ -25,7 +26,7 @@ bind_some : {A B : Type 0} (o : Option A) (f : A → Option B) (y : B) → optio
 bind_some None f y e = cc
 bind_some (Some x) f y e = (x, refl, e)
 
-given_some : {A : Type 0} (b : Bool) (o : Option A) (y : A) → given b o ≡ Some y → (b ≡ true) × (o ≡ Some y)
+given_some : {A : Type 0} (b : Bool) (o : Option A) (y : A) → where_true b o ≡ Some y → (b ≡ true) × (o ≡ Some y)
 given_some true o y e = (refl, e)
 given_some false o y e = cc
 
@@ -33,11 +34,11 @@ both_true : (a b : Bool) → (a && b) ≡ true → (a ≡ true) × (b ≡ true)
 both_true true b e = (refl, e)
 both_true false b e = cc
 
-text_said : (text : List ℕ) (o : Option (List ℕ)) → is_text text o ≡ true → o ≡ Some text
+text_said : (text : List ℕ) (o : Option (List ℕ)) → says_text text o ≡ true → o ≡ Some text
 text_said text None e = cc
 text_said text (Some found) e = ap Some ((bytes_eq-Decides found text).0 e)
 
-said_text : (text : List ℕ) (o : Option (List ℕ)) → o ≡ Some text → is_text text o ≡ true
+said_text : (text : List ℕ) (o : Option (List ℕ)) → o ≡ Some text → says_text text o ≡ true
 said_text text o e = rw e ((bytes_eq-Decides text text).1 refl)
 
 string_said : (d : Data) (text : List ℕ) → as_str d ≡ Some text → d ≡ string text
@@ -101,7 +102,7 @@ steps_said store (item d ds) steps e =
 differ_said : (x y : List ℕ) → not (bytes_eq x y) ≡ true → x ≢ y
 differ_said x y h same = let e : bytes_eq x y ≡ true = (bytes_eq-Decides x y).1 same in true≢false (sym h ∙ ap not e)
 
-distinct_said : (a b c d : List ℕ) → are_distinct a b c d ≡ true → AreDistinct (a ∷ b ∷ c ∷ d ∷ [])
+distinct_said : (a b c d : List ℕ) → differ_pairwise a b c d ≡ true → DifferPairwise (a ∷ b ∷ c ∷ d ∷ [])
 distinct_said a b c d e =
     let cd = both_true _ _ e in
     let bd = both_true _ _ cd.0 in
@@ -115,9 +116,9 @@ distinct_said a b c d e =
 open_said : (d : Data) (names : List ℕ × List ℕ) → open_in d ≡ Some names → (database : List ℕ) × IsOpen database names.0 names.1 d
 unfolding open_in
 open_said d names e =
-    let database = bind_some (text_of 4 (codes "db") d) _ names e in
-    let upgrade = bind_some (text_of 4 (codes "upgrade") d) _ names database.2 in
-    let success = bind_some (text_of 4 (codes "success") d) _ names upgrade.2 in
+    let database = bind_some (text_member 4 (codes "db") d) _ names e in
+    let upgrade = bind_some (text_member 4 (codes "upgrade") d) _ names database.2 in
+    let success = bind_some (text_member 4 (codes "success") d) _ names upgrade.2 in
     let op = given_some (says 4 (codes "op") (codes "open") d) (Some (upgrade.0, success.0)) names success.2 in
     let same : (upgrade.0, success.0) ≡ names = same_Some _ _ op.1 in
     let P : List ℕ × List ℕ → Type 0 = λ n. IsOpen database.0 n.0 n.1 d in
@@ -126,7 +127,7 @@ open_said d names e =
 creation_said : (d : Data) (store : List ℕ) → creation_in d ≡ Some store → IsCreation store d
 unfolding creation_in
 creation_said d store e =
-    let found = bind_some (text_of 2 (codes "store") d) _ store e in
+    let found = bind_some (text_member 2 (codes "store") d) _ store e in
     let op = given_some (says 2 (codes "op") (codes "createObjectStore") d) (Some found.0) store found.2 in
     record { op = text_said _ _ op.0; creates = found.1 ∙ op.1 }
 
@@ -134,8 +135,8 @@ transaction_said : (store : List ℕ) (d : Data) (body : List ℕ) → transacti
 unfolding transaction_in
 transaction_said store d body e =
     let scope = bind_some (single_of 4 (codes "scope") d) _ body e in
-    let runs = bind_some (text_of 4 (codes "body") d) _ body scope.2 in
-    let last = given_some (is_text store (as_str scope.0) && says 4 (codes "op") (codes "transaction") d && says 4 (codes "mode") (codes "readwrite") d) (Some runs.0) body runs.2 in
+    let runs = bind_some (text_member 4 (codes "body") d) _ body scope.2 in
+    let last = given_some (says_text store (as_str scope.0) && says 4 (codes "op") (codes "transaction") d && says 4 (codes "mode") (codes "readwrite") d) (Some runs.0) body runs.2 in
     let mode = both_true _ _ last.0 in
     let op = both_true _ _ mode.0 in
     record {
@@ -156,7 +157,7 @@ body_said blocks steps found e done few =
     let body = bind_some (transaction_in store.0 transaction.0) _ found transaction.2 in
     let block = bind_some (member_of 4 body.0 blocks) _ found body.2 in
     let statements = bind_some (as_array block.0) _ found block.2 in
-    let last = given_some (are_distinct (codes "main") names.0.0 names.0.1 body.0) (Some (store.0, statements.0)) found statements.2 in
+    let last = given_some (differ_pairwise (codes "main") names.0.0 names.0.1 body.0) (Some (store.0, statements.0)) found statements.2 in
     let same : found ≡ (store.0, statements.0) = sym (same_Some _ _ last.1) in
     let P : List ℕ × Items → Type 0 = λ f. steps_in f.0 f.1 ≡ Some steps in
     let opens = open_said opening.0 names.0 names.1 in
@@ -238,7 +239,7 @@ differ_again x y other = by_test _ refl
     by_test true is = absurd (other ((bytes_eq-Decides x y).0 is))
     by_test false is = refl
 
-distinct_again : (a b c d : List ℕ) → AreDistinct (a ∷ b ∷ c ∷ d ∷ []) → are_distinct a b c d ≡ true
+distinct_again : (a b c d : List ℕ) → DifferPairwise (a ∷ b ∷ c ∷ d ∷ []) → differ_pairwise a b c d ≡ true
 distinct_again a b c d are = rw (differ_again a b are.0.0, differ_again a c are.0.1.0, differ_again a d are.0.1.1.0, differ_again b c are.1.0.0, differ_again b d are.1.0.1.0, differ_again c d are.1.1.0.0)
 
 open_again : (database upgrade success : List ℕ) (d : Data) → IsOpen database upgrade success d → open_in d ≡ Some (upgrade, success)
@@ -277,7 +278,7 @@ first_again document steps is =
 -- ---- what reading the document gives, of the bytes
 
 module _ (bytes : List ℕ) (document : Data) (utf8 : IsUtf8 bytes) (reads : read bytes ≡ Some document) where
-  pub gives_found : (r : Result FirstScript FirstError) → Gives (λ s. s.steps) r (first_in document) → IfOk r (λ script. IsFirst script.steps bytes)
+  pub gives_found : (r : Result FirstScript FirstError) → Gives RefusesFirst (λ s. s.steps) r (first_in document) → IfOk r (λ script. IsFirst script.steps bytes)
   gives_found (Ok script) gives = record { document = document; utf8 = utf8; reads = reads; form = first_said document script.steps gives }
   gives_found (Err e) gives = tt
 
@@ -287,12 +288,12 @@ module _ (bytes : List ℕ) (document : Data) (utf8 : IsUtf8 bytes) (reads : rea
       let P : Data → Type 0 = λ d. first_in d ≡ Some steps in
       subst P same (first_again is.document steps is.form)
 
-  pub gives_not_built : (r : Result FirstScript FirstError) → Gives (λ s. s.steps) r (first_in document) → IsErrOf r NotBuilt → (steps : List FirstStep) → IsFirst steps bytes → ⊥
+  pub gives_not_built : (r : Result FirstScript FirstError) → Gives RefusesFirst (λ s. s.steps) r (first_in document) → IsErrOf r NotBuilt → (steps : List FirstStep) → IsFirst steps bytes → ⊥
   gives_not_built (Ok script) gives e steps is = cc
   gives_not_built (Err NotBuilt) gives e steps is = let found = computed steps is in none-some _ (sym gives ∙ found)
   gives_not_built (Err NoMemory) gives e steps is = cc
 
-  pub gives_only : (r : Result FirstScript FirstError) → Gives (λ s. s.steps) r (first_in document) → (steps : List FirstStep) → IsFirst steps bytes → MatchResult r (λ script. script.steps ≡ steps) (λ e. e ≡ NoMemory)
+  pub gives_only : (r : Result FirstScript FirstError) → Gives RefusesFirst (λ s. s.steps) r (first_in document) → (steps : List FirstStep) → IsFirst steps bytes → MatchResult r (λ script. script.steps ≡ steps) (λ e. e ≡ NoMemory)
   gives_only (Ok script) gives steps is = same_Some _ _ (sym gives ∙ computed steps is)
   gives_only (Err NotBuilt) gives steps is = let found = computed steps is in absurd (none-some _ (sym gives ∙ found))
   gives_only (Err NoMemory) gives steps is = refl

@@ -14,8 +14,8 @@ member_of n name (array ds) = None
 member_of n name (object ms) = if members_len ms == n then get_member name ms else None
 
 -- that member, where it is a text
-abbrev pub text_of : ℕ → List ℕ → Data → Option (List ℕ)
-text_of n name d = option_and_then as_str (member_of n name d)
+abbrev pub text_member : ℕ → List ℕ → Data → Option (List ℕ)
+text_member n name d = option_and_then as_str (member_of n name d)
 
 -- a whole number is one from -2^53 to 2^53
 abbrev pub in_range : ℤ → Option ℤ

@@ -8,26 +8,26 @@ use Rattle.std.specs.List.{AllByRecursion}
 use Rattle.std.specs.Str.{IsUtf8}
 use Rattle.serde_json.specs.Data.{Data, string, array, Items, no_items, item}
 use Rattle.serde_json.specs.Read.{read}
-use Rattle.script_model.specs.Document.{member_of, text_of, int_of, single_of}
+use Rattle.script_model.specs.Document.{member_of, text_member, int_of, single_of}
 use Rattle.script_model.specs.declared.first.FirstStep.{FirstStep}
 use Rattle.script_model.specs.declared.first.FirstStep.TheVariants.{Put, Get}
 
 -- no name comes twice
-abbrev pub AreDistinct : List (List ℕ) → Type 0
-AreDistinct [] = ⊤
-AreDistinct (name ∷ names) = AllByRecursion (λ other. name ≢ other) names × AreDistinct names
+abbrev pub DifferPairwise : List (List ℕ) → Type 0
+DifferPairwise [] = ⊤
+DifferPairwise (name ∷ names) = AllByRecursion (λ other. name ≢ other) names × DifferPairwise names
 
 -- a `put` on the store: an object of four members
 pub record IsPut (store : List ℕ) (key value : ℤ) (d : Data) : Type 0 where
-  pub op : text_of 4 (codes "op") d ≡ Some (codes "put")
-  pub on_store : text_of 4 (codes "store") d ≡ Some store
+  pub op : text_member 4 (codes "op") d ≡ Some (codes "put")
+  pub on_store : text_member 4 (codes "store") d ≡ Some store
   pub under : int_of 4 (codes "key") d ≡ Some key
   pub puts : int_of 4 (codes "value") d ≡ Some value
 
 -- a `get` on the store: an object of three members
 pub record IsGet (store : List ℕ) (key : ℤ) (d : Data) : Type 0 where
-  pub op : text_of 3 (codes "op") d ≡ Some (codes "get")
-  pub on_store : text_of 3 (codes "store") d ≡ Some store
+  pub op : text_member 3 (codes "op") d ≡ Some (codes "get")
+  pub on_store : text_member 3 (codes "store") d ≡ Some store
   pub queries : int_of 3 (codes "query") d ≡ Some key
 
 abbrev pub IsStep : List ℕ → FirstStep → Data → Type 0
@@ -43,22 +43,22 @@ AreSteps store (step ∷ steps) no_items = ⊥
 
 -- `open` of a database, with a block for the upgrade and one for success
 pub record IsOpen (database upgrade success : List ℕ) (d : Data) : Type 0 where
-  pub op : text_of 4 (codes "op") d ≡ Some (codes "open")
-  pub of_database : text_of 4 (codes "db") d ≡ Some database
-  pub upgrades : text_of 4 (codes "upgrade") d ≡ Some upgrade
-  pub succeeds : text_of 4 (codes "success") d ≡ Some success
+  pub op : text_member 4 (codes "op") d ≡ Some (codes "open")
+  pub of_database : text_member 4 (codes "db") d ≡ Some database
+  pub upgrades : text_member 4 (codes "upgrade") d ≡ Some upgrade
+  pub succeeds : text_member 4 (codes "success") d ≡ Some success
 
 -- `createObjectStore` without options
 pub record IsCreation (store : List ℕ) (d : Data) : Type 0 where
-  pub op : text_of 2 (codes "op") d ≡ Some (codes "createObjectStore")
-  pub creates : text_of 2 (codes "store") d ≡ Some store
+  pub op : text_member 2 (codes "op") d ≡ Some (codes "createObjectStore")
+  pub creates : text_member 2 (codes "store") d ≡ Some store
 
 -- a read/write `transaction` over the one store
 pub record IsTransaction (store body : List ℕ) (d : Data) : Type 0 where
-  pub op : text_of 4 (codes "op") d ≡ Some (codes "transaction")
+  pub op : text_member 4 (codes "op") d ≡ Some (codes "transaction")
   pub scope : single_of 4 (codes "scope") d ≡ Some (string store)
-  pub mode : text_of 4 (codes "mode") d ≡ Some (codes "readwrite")
-  pub runs : text_of 4 (codes "body") d ≡ Some body
+  pub mode : text_member 4 (codes "mode") d ≡ Some (codes "readwrite")
+  pub runs : text_member 4 (codes "body") d ≡ Some body
 
 -- the blocks of the one client
 pub record AreFirstBlocks (steps : List FirstStep) (blocks : Data) : Type 0 where
@@ -71,7 +71,7 @@ pub record AreFirstBlocks (steps : List FirstStep) (blocks : Data) : Type 0 wher
   pub creation : Data
   pub transaction : Data
   pub statements : Items
-  pub names : AreDistinct (codes "main" ∷ upgrade ∷ success ∷ body ∷ [])
+  pub names : DifferPairwise (codes "main" ∷ upgrade ∷ success ∷ body ∷ [])
   pub main : single_of 4 (codes "main") blocks ≡ Some opening
   pub opens : IsOpen database upgrade success opening
   pub on_upgrade : single_of 4 upgrade blocks ≡ Some creation

@@ -1,7 +1,7 @@
 // Looking into a document whose objects have just the members that are named.
 ghost use Rattle.std.specs.Prelude.{◌≡◌, ◌↔◌, IsTrue, option_map, option_copied, Some};
 ghost use Rattle.serde_json.specs.View.{view, items_view};
-ghost use Rattle.script_model.specs.Document.{member_of, text_of, int_of, single, single_of};
+ghost use Rattle.script_model.specs.Document.{member_of, text_member, int_of, single, single_of};
 ghost use Rattle.script_model.specs.Reading.{says};
 
 use serde_json::Value;
@@ -23,7 +23,7 @@ pub fn member<'a>(value: &'a Value, count: usize, name: &str) -> Option<&'a Valu
 
 // That member, where it is a text.
 pub fn text<'a>(value: &'a Value, count: usize, name: &str) -> Option<&'a str>
-    ensures { option_map (λ t. t.now) result ≡ text_of count name.now (view value.now) }
+    ensures { option_map (λ t. t.now) result ≡ text_member count name.now (view value.now) }
 {
     member(value, count, name)?.as_str()
 }

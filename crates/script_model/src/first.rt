@@ -1,6 +1,6 @@
 ghost use Rattle.std.specs.Prelude.{◌≡◌, ◌∷◌, ◌++◌, [], IfOk, OnOk, OnErr, length, slice_get, option_map};
 
-use clone_values::NoMemory;
+use idb_base::NoMemory;
 use std::alloc::Global;
 use std::marker::Model;
 

@@ -4,7 +4,8 @@ ghost use Rattle.std.specs.Str.{IsUtf8};
 ghost use Rattle.serde_json.specs.Read.{read};
 ghost use Rattle.serde_json.specs.View.{view, items_view};
 ghost use Rattle.script_model.specs.FirstForm.{IsFirst};
-ghost use Rattle.script_model.specs.Reading.{Gives, put_in, get_in, step_in, steps_in, open_in, creation_in, transaction_in, are_distinct, body_in, blocks_in, first_in};
+ghost use Rattle.idb_base.specs.Results.{Gives};
+ghost use Rattle.script_model.specs.Reading.{RefusesFirst, put_in, get_in, step_in, steps_in, open_in, creation_in, transaction_in, differ_pairwise, body_in, blocks_in, first_in};
 ghost use Rattle.script_model.specs.declared.first.FirstStep.{FirstStep};
 
 use crate::document::{int, member, member_says, single_member, text};
@@ -101,7 +102,7 @@ fn blocks_of(document: &Value) -> Option<&Value>
 }
 
 fn all_differ(a: &str, b: &str, c: &str, d: &str) -> bool
-    ensures { result ≡ are_distinct a.now b.now c.now d.now }
+    ensures { result ≡ differ_pairwise a.now b.now c.now d.now }
 {
     a != b && a != c && a != d && b != c && b != d && c != d
 }
@@ -128,7 +129,7 @@ fn body_of(blocks: &Value) -> Option<(&str, &Vec<Value>)>
 
 // The steps that the statements are, where each is one.
 fn steps_of(alloc: Global, store: &str, statements: &[Value]) -> Result<FirstSteps, FirstError>
-    ensures { Gives (λ s. s) result (steps_in store.now (items_view statements.now)) }
+    ensures { Gives RefusesFirst (λ s. s) result (steps_in store.now (items_view statements.now)) }
 {
     let mut steps = FirstSteps::new(alloc);
     for statement in statements {
@@ -143,7 +144,7 @@ fn steps_of(alloc: Global, store: &str, statements: &[Value]) -> Result<FirstSte
 // The steps of a document.
 #[tactic(auto, unfolding(crate::specs::Reading::first_in))]
 fn script_of(alloc: Global, document: &Value) -> Result<FirstScript, FirstError>
-    ensures { Gives (λ s. s.steps) result (first_in (view document.now)) }
+    ensures { Gives RefusesFirst (λ s. s.steps) result (first_in (view document.now)) }
 {
     let Some(blocks) = blocks_of(document) else {
         return Err(FirstError::NotBuilt);

@@ -3,7 +3,8 @@ ghost use Rattle.std.specs.Prelude.{◌≡◌, ◌++◌, ◌+◌, ◌<◌, ◌^�
 ghost use Rattle.clone_values.specs.View.{tree_of};
 ghost use Rattle.script_model.specs.FirstResults.{IsFirstResult, json_of, request_line, request_lines, report_text};
 
-use clone_values::{Items, NoMemory, Text, Value};
+use clone_values::{Items, Value};
+use idb_base::NoMemory;
 use std::alloc::{AllocError, Global};
 
 const OPENING: &str =
@@ -15,7 +16,8 @@ const CLOSING: &str =
 // Adds the line of the request with this number.
 fn push_request(text: &mut String, number: usize, given: &Value) -> Result<(), NoMemory>
     requires { IsFirstResult (tree_of given.now) }
-    ensures { OnOk result (string_bytes text.new ≡ string_bytes text.old ++ request_line number (tree_of given.now)) }
+    ensures { OnOk result (string_bytes text.new
+        ≡ string_bytes text.old ++ request_line number (tree_of given.now)) }
 {
     match given {
         Value::Int(value) => writeln!(text, "tx 2 req {number} success {value}")?,
@@ -40,12 +42,12 @@ fn push_requests(text: &mut String, results: &Items) -> Result<(), NoMemory>
 /// The text of the report of a script of the first form whose requests gave these results, in order: each a whole
 /// number or Undefined.
 #[tactic(auto, unfolding(crate::specs::FirstResults::report_text))]
-pub fn first_text(alloc: Global, results: &Items) -> Result<Text, NoMemory>
+pub fn first_text(alloc: Global, results: &Items) -> Result<String, NoMemory>
     requires { All IsFirstResult results.now }
-    ensures { IfOk result (λ text. text ≡ report_text results.now) }
+    ensures { IfOk result (λ text. string_bytes text ≡ report_text results.now) }
 {
     let mut text = String::from_str(alloc, OPENING)?;
     push_requests(&mut text, results)?;
     text.push_str(CLOSING)?;
-    Ok(Text::from_string(text))
+    Ok(text)
 }

@@ -1,13 +1,13 @@
 // Writes the report of a script to a sink.
-ghost use Rattle.std.specs.Prelude.{◌≡◌, ◌≤◌, IfOk, OnOk, IsErrOf, length};
+ghost use Rattle.std.specs.Prelude.{◌≡◌, ◌≤◌, IfOk, OnOk, IsErrOf, length, string_bytes};
 ghost use Rattle.std.specs.Io.KnownBytes.{Appends};
 ghost use Rattle.edge_traits.specs.Faults.{Rose};
 ghost use Rattle.edge_traits.specs.Streams.{AppendsFront};
 ghost use Rattle.script_model.specs.FirstResults.{report_of};
 
 use crate::results::results_of_steps;
-use clone_values::{NoMemory, Text};
 use edge_traits::{Gate, Sink, write_all};
+use idb_base::NoMemory;
 use script_model::{FirstSteps, first_text};
 use std::alloc::Global;
 
@@ -19,9 +19,9 @@ pub enum NoReport {
 }
 
 // The report of a script of these steps.
-fn report_of_steps<G: Gate>(alloc: Global, gate: &G, steps: &FirstSteps) -> Result<Text, NoMemory>
+fn report_of_steps<G: Gate>(alloc: Global, gate: &G, steps: &FirstSteps) -> Result<String, NoMemory>
     requires { length steps.now ≤ 1000 }
-    ensures { IfOk result (λ text. text ≡ report_of steps.now) }
+    ensures { IfOk result (λ text. string_bytes text ≡ report_of steps.now) }
 {
     let results = results_of_steps(alloc, gate, steps)?;
     first_text(alloc, &results)

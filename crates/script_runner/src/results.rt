@@ -6,8 +6,9 @@ ghost use Rattle.clone_values.specs.View.{tree_of};
 ghost use Rattle.script_model.specs.FirstResults.{results_of};
 ghost use Rattle.script_runner.specs.Running.{result_over, records_over};
 
-use clone_values::{Items, NoMemory, Value};
+use clone_values::{Items, Value};
 use edge_traits::Gate;
+use idb_base::NoMemory;
 use script_model::{FirstStep, FirstSteps};
 use std::alloc::Global;
 use std::collections::BTreeMap;
@@ -20,7 +21,8 @@ const TRANSACTION: u64 = 2;
 // One statement over the records of the store.
 fn result_of_step(records: &mut BTreeMap<i64, i64>, step: &FirstStep) -> Result<Value, NoMemory>
     ensures result { IfOk result (λ v. tree_of v ≡ result_over (get int_cmp records.old) step.now) }
-    ensures records { OnOk result ((q : ℤ) → get int_cmp records.new q ≡ records_over (get int_cmp records.old) step.now q) }
+    ensures records { OnOk result ((q : ℤ)
+        → get int_cmp records.new q ≡ records_over (get int_cmp records.old) step.now q) }
 {
     match step {
         FirstStep::Put { key, value } => {

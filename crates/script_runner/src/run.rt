@@ -97,13 +97,15 @@ pub fn run_words<R: Threads + Wait + Sync, S: Source, K: Sink, D, G: Gate + Sync
         × AppendsFront (K.held sink.old) (K.held sink.new) (report_of steps) }
 
     // The cause of each other status.
-    ensures usage { (text : List ℕ) → result.status ≡ Status.Usage text → (text ≡ usage_text) × (IsRun words.now → ⊥) }
+    ensures usage { (text : List ℕ) → result.status ≡ Status.Usage text → (text ≡ usage_text)
+        × (IsRun words.now → ⊥) }
     ensures not_built { result.status ≡ Status.NotBuilt → ReadsOther (S.left source.old) (S.left source.new) }
     ensures read_cause { result.status ≡ Status.ReadFault → Rose (S.faults source.old) (S.faults source.new) }
     ensures write_cause { result.status ≡ Status.WriteFault → Rose (K.faults sink.old) (K.faults sink.new) }
 
     // Other words come to nothing else, and nothing is read then.
-    ensures refused { (IsRun words.now → ⊥) → (result.status ≡ Status.Usage usage_text) ⊎ (result.status ≡ Status.NoMemory) }
+    ensures refused { (IsRun words.now → ⊥) → (result.status ≡ Status.Usage usage_text)
+        ⊎ (result.status ≡ Status.NoMemory) }
     ensures untouched { (IsRun words.now → ⊥) → (source.new ≡ source.old) × (sink.new ≡ sink.old) }
 
     // A script gets its report, where nothing fails and memory lasts.

@@ -6,7 +6,7 @@ ghost use Rattle.script_model.specs.FirstForm.{IsFirst};
 ghost use Rattle.script_model.specs.declared.first.FirstStep.{FirstStep};
 ghost use Rattle.script_runner.specs.FirstCall.{ReadsFirst, ReadsOther};
 
-use edge_traits::{ReadError, Source, read_all};
+use edge_traits::{Source, SourceError, read_all};
 use script_model::{FirstError, FirstScript, read_first};
 use std::alloc::Global;
 
@@ -25,7 +25,8 @@ pub enum NoScript {
 pub fn read_script<S: Source>(alloc: Global, source: &mut S) -> Result<FirstScript, NoScript>
     ensures found { IfOk result (λ script. ReadsFirst (S.left source.old) (S.left source.new) script.steps) }
     ensures fault { IsErrOf result NoScript.ReadFault → Rose (S.faults source.old) (S.faults source.new) }
-    ensures not_built { IsErrOf result NoScript.NotBuilt → ReadsOther (S.left source.old) (S.left source.new) }
+    ensures not_built { IsErrOf result NoScript.NotBuilt
+        → ReadsOther (S.left source.old) (S.left source.new) }
     ensures complete { (input : List ℕ) (steps : List FirstStep) → S.left source.old ≡ Some input
         → length input ≤ 65536 → IsFirst steps input → (Rose (S.faults source.old) (S.faults source.new) → ⊥)
         → IsOk result ⊎ IsErrOf result NoScript.NoMemory }
@@ -34,8 +35,8 @@ pub fn read_script<S: Source>(alloc: Global, source: &mut S) -> Result<FirstScri
 {
     let bytes = match read_all(alloc, source, MOST_BYTES + 1) {
         Ok(bytes) => bytes,
-        Err(ReadError::Failed) => return Err(NoScript::ReadFault),
-        Err(ReadError::NoMemory) => return Err(NoScript::NoMemory),
+        Err(SourceError::Failed) => return Err(NoScript::ReadFault),
+        Err(SourceError::NoMemory) => return Err(NoScript::NoMemory),
     };
     if bytes.len() > MOST_BYTES {
         return Err(NoScript::NotBuilt);

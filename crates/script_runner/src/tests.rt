@@ -2,7 +2,8 @@
 use crate::{Ended, run_words};
 use clone_values::Text;
 use edge_traits::{Gate, MemorySink, MemorySource, OpenGate};
-use std::alloc::{AllocError, Global};
+use idb_base::{GREATEST_LENGTH, NoMemory};
+use std::alloc::Global;
 use std::process::Abort;
 use std::sync::Wait;
 use std::sync::atomic::{AtomicU64, Ordering};
@@ -40,10 +41,13 @@ impl Gate for CountingGate {
     }
 }
 
-fn words_of(alloc: Global, texts: &[&str]) -> Result<Vec<Text>, AllocError> {
+fn words_of(alloc: Global, texts: &[&str]) -> Result<Vec<Text>, NoMemory> {
     let mut words = Vec::new(alloc);
     for text in texts {
-        words.push(Text::from_string(String::from_str(alloc, text)?))?;
+        if text.len() > GREATEST_LENGTH {
+            return Err(NoMemory);
+        }
+        words.push(Text::copy_of(alloc, text)?)?;
     }
     Ok(words)
 }

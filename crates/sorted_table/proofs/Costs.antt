@@ -1,5 +1,6 @@
 -- One step of a halving.
 --     taken            with one step more, half as much lies ahead
+--     one_more         one step before a halving
 --     steps_within     a bound on the steps themselves
 use Rattle.std.proofs.Common.{◌≡◌, ℕ, ◌+◌, ◌-◌, ◌*◌, ◌^◌, ◌<◌, ◌≤◌, suc, arith, le_trans, pow-suc, mul_assoc, mul-le-mul_left, le-mul_of_pos_right, lt_of_not-le, pow_mono}
 
@@ -15,6 +16,12 @@ pub taken : (old now new n s half : ℕ) → old ≤ now → new ≡ now + 1 →
 taken old now new n s half le e h z l =
     let later : new - old ≡ suc (now - old) = omega arith in
     rw (later, pow-suc) (twice (2 ^ (now - old)) s half n h z l)
+
+-- one comparison before a halving of all but one
+pub one_more : (old now new n : ℕ) → now ≡ old + 1 → now ≤ new → 2 ^ (new - now) ≤ 2 * (n - 1) + 1 → 0 < n → 2 ^ (new - old) ≤ 4 * n + 2
+one_more old now new n e le h z =
+    let later : new - old ≡ suc (new - now) = omega arith in
+    rw (later, pow-suc) (omega arith)
 
 -- what two to the power of the steps stays under bounds the steps
 pub steps_within : (steps bound most : ℕ) → 2 ^ steps ≤ bound → bound < 2 ^ (most + 1) → steps ≤ most

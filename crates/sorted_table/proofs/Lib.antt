@@ -2,3 +2,5 @@ pub mod Rising
 pub mod Places
 pub mod Costs
 pub mod Maps
+pub mod Values
+pub mod Laws

@@ -1,5 +1,5 @@
 -- The order of keys as they stand in a table.
---     by_key_order          the order of keys (Indexed Database API 3.0, 2.4)
+--     by_key_order          the order of keys (Indexed Database API 3.0, "compare two keys")
 use Rattle.std.specs.Prelude.{◌≡◌, List, [], ◌∷◌, refl}
 use Rattle.std.proofs.Common.{sym, ap, ◌∙◌}
 use Rattle.std.specs.declared.cmp.Ordering.{Ordering}
@@ -12,7 +12,7 @@ use Rattle.clone_values.specs.View.{key_tree_of}
 use Rattle.clone_values.specs.KeyTree.{KeyTree, key_trees_of, list_of_keys}
 use Rattle.clone_values.specs.KeyTree as keys
 use Rattle.key_order.specs.KeyOrder.{key_cmp}
-use Rattle.key_order.proofs.KeyLaws.{key_cmp_total, key_cmp_same}
+use Rattle.key_order.proofs.Laws.{key_cmp_total, key_cmp_same}
 
 -- how one key stands to another
 abbrev pub by_key_order : Key → Key → Ordering

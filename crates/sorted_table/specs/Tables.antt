@@ -1,12 +1,14 @@
 -- Lists of entries in the order of their keys.
---     entry_seen            what a lent entry shows
+--     pair_seen             what a lent entry shows
 --     IsSorted              the keys rise strictly
 --     Lacks                 no entry has a key that ties
 --     HasKeyAt              the entry of a key stands at a place
 --     BelongsAt             the key has no entry, and this is where it would stand
 --     without               the entries whose keys don't tie with one
+--     value_there           the value of the entry at a place
+--     with_value            the same entries, but for the value at one place
 use denote.Ref.{Bor}
-use Rattle.std.specs.Prelude.{◌≡◌, ℕ, ◌+◌, ◌≤◌, T, List, Some, None, length, take, drop, slice_get, not}
+use Rattle.std.specs.Prelude.{◌≡◌, ℕ, zero, suc, ◌+◌, ◌≤◌, T, List, [], ◌∷◌, Option, Some, None, length, take, drop, slice_get, option_map, not}
 use Rattle.std.specs.declared.cmp.Ordering.{Ordering}
 use Rattle.std.specs.declared.cmp.Ordering.TheVariants.{Less}
 use Rattle.std.specs.Ordering.{eq_by_cmp}
@@ -15,8 +17,8 @@ use Rattle.std.specs.FinMap.Entries.{where_key}
 use Rattle.std.specs.List.{AllByRecursion}
 
 -- the key and the value that a lent entry shows
-abbrev pub entry_seen : {K V : Type 0} → Bor K × Bor V → K × V
-entry_seen e = (e.0.now, e.1.now)
+abbrev pub pair_seen : {K V : Type 0} → Bor K × Bor V → K × V
+pair_seen e = (e.0.now, e.1.now)
 
 -- each key is less than all keys behind it
 abbrev pub IsSorted : {K V : Type 0} → (K → K → Ordering) → List (K × V) → Type 0
@@ -50,3 +52,13 @@ pub record BelongsAt {K V : Type 0} (order : K → K → Ordering) (es : List (K
 -- the entries whose keys don't tie with this one
 abbrev pub without : {K V : Type 0} → (K → K → Ordering) → K → List (K × V) → List (K × V)
 without order k es = where_key order (λ x. not (eq_by_cmp order k x)) es
+
+-- the value of the entry at this place
+abbrev pub value_there : {K V : Type 0} → List (K × V) → ℕ → Option V
+value_there es place = option_map (λ e. e.1) (slice_get es place)
+
+-- the entry at this place has this value, and the rest is the same
+abbrev pub with_value : {K V : Type 0} → List (K × V) → ℕ → V → List (K × V)
+with_value [] place value = []
+with_value (e ∷ es) zero value = (e.0, value) ∷ es
+with_value (e ∷ es) (suc place) value = e ∷ with_value es place value

@@ -1,14 +1,15 @@
 // One run of entries.
 ghost use Rattle.std.specs.Prelude.{◌≡◌, ℕ, ◌+◌, ◌-◌, ◌*◌, ◌^◌, ◌<◌, ◌≤◌, [], List, Some, length, slice_get, remove, option_map, OnOk, IfOk, IfErr, vec_len, vec_capacity};
 ghost use Rattle.std.specs.FinMap.{put};
-ghost use Rattle.sorted_table.specs.Tables.{entry_seen, IsSorted, Lacks, HasKeyAt, BelongsAt};
+ghost use Rattle.sorted_table.specs.Tables.{pair_seen, IsSorted, HasKeyAt, BelongsAt, value_there, with_value};
 
-use crate::halving::{gap_in, place_in};
+use crate::halving::place_in;
 use crate::order::Ordered;
 use crate::steps::Steps;
 use crate::table::OrderedTable;
-use clone_values::NoMemory;
+use idb_base::NoMemory;
 use std::alloc::Global;
+use std::mem;
 use std::sync::ledger::Ledger;
 
 /// A table that keeps its entries in one run. A look-up halves the run; an insertion or a removal moves the entries
@@ -56,27 +57,42 @@ impl<K: Ordered, V: Drop> OrderedTable<K, V> for FlatTable<K, V> {
         Ok(())
     }
 
-    fn insert(&mut self, key: K, value: V) {
-        put_in(&mut self.rows, key, value);
+    fn insert_at(&mut self, place: usize, key: K, value: V) {
+        put_in(&mut self.rows, place, key, value);
+    }
+
+    fn replace(&mut self, place: usize, value: V) -> V {
+        replace_in(&mut self.rows, place, value)
     }
 
     fn remove(&mut self, place: usize) -> (K, V) {
         self.rows.remove(place)
     }
+
+    ghost rises = { λ t. t.sorted };
 }
 
 /// Puts an entry where its key belongs.
-fn put_in<K: Ordered, V: Drop>(rows: &mut Vec<(K, V)>, key: K, value: V)
+fn put_in<K: Ordered, V: Drop>(rows: &mut Vec<(K, V)>, place: usize, key: K, value: V)
     requires room { vec_len rows.old < vec_capacity rows.old }
-    requires sorted { IsSorted K.order rows.old.items }
-    requires absent { Lacks K.order rows.old.items key }
+    requires belongs { BelongsAt K.order rows.old.items place key }
     ensures items { rows.new.items ≡ put K.order key value rows.old.items }
     ensures len { vec_len rows.new ≡ vec_len rows.old + 1 }
     ensures capacity { vec_capacity rows.old ≤ vec_capacity rows.new }
 {
-    let place = gap_in(rows.as_slice(), &key);
     match rows.insert(place, (key, value)) {
         Ok(()) => {}
         Err(_) => unreachable!(),
     }
+}
+
+/// Puts another value into the entry at this place.
+fn replace_in<K: Ordered, V: Drop>(rows: &mut Vec<(K, V)>, place: usize, value: V) -> V
+    requires { place < length rows.old.items }
+    ensures given { value_there rows.old.items place ≡ Some result }
+    ensures items { rows.new.items ≡ with_value rows.old.items place value }
+    ensures len { vec_len rows.new ≡ vec_len rows.old }
+    ensures capacity { vec_capacity rows.new ≡ vec_capacity rows.old }
+{
+    mem::replace(&mut rows[place].1, value)
 }

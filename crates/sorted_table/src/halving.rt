@@ -1,12 +1,11 @@
 // Places in a slice of entries, found by halving.
-ghost use Rattle.std.specs.Prelude.{◌≡◌, ℕ, ◌+◌, ◌-◌, ◌*◌, ◌^◌, ◌<◌, ◌≤◌, length, IfOk, IfErr};
-ghost use Rattle.sorted_table.specs.Tables.{IsSorted, Lacks, HasKeyAt, BelongsAt};
+ghost use Rattle.std.specs.Prelude.{◌≡◌, ℕ, ◌+◌, ◌-◌, ◌*◌, ◌^◌, ◌≤◌, length, drop, IfOk, IfErr};
+ghost use Rattle.sorted_table.specs.Tables.{IsSorted, AreAbove, HasKeyAt, BelongsAt};
 
 use crate::order::Ordered;
 use crate::steps::Steps;
 use std::cmp::Ordering;
-use std::marker::Brand;
-use std::sync::ledger::{Blank, Ledger};
+use std::sync::ledger::Ledger;
 
 /// How the key stands to the key of an entry, and one step more.
 pub(crate) fn compared<K: Ordered, L: Ledger>(key: &K, other: &K, steps: &mut Steps<L>) -> Ordering
@@ -17,7 +16,7 @@ pub(crate) fn compared<K: Ordered, L: Ledger>(key: &K, other: &K, steps: &mut St
     key.order(other)
 }
 
-/// The place of the key, or the place where it would stand.
+/// The place of the key, or the place where it would stand; the first comparison is with the last entry.
 pub(crate) fn place_in<K: Ordered, V: Drop, L: Ledger>(
     entries: &[(K, V)],
     key: &K,
@@ -27,41 +26,44 @@ pub(crate) fn place_in<K: Ordered, V: Drop, L: Ledger>(
     ensures found { IfOk result (λ place. HasKeyAt K.order entries.now place key.now) }
     ensures absent { IfErr result (λ place. BelongsAt K.order entries.now place key.now) }
     ensures counted { steps.old ≤ steps.new }
-    ensures cost { 2 ^ (steps.new - steps.old) ≤ 2 * length entries.now + 1 }
+    ensures cost { 2 ^ (steps.new - steps.old) ≤ 4 * length entries.now + 2 }
+{
+    let count = entries.len();
+    if count == 0 {
+        return Err(0);
+    }
+    let last = count - 1;
+    match compared(key, &entries[last].0, steps) {
+        Ordering::Less => place_before(entries, last, key, steps),
+        Ordering::Greater => Err(last + 1),
+        Ordering::Equal => Ok(last),
+    }
+}
+
+/// The same of a key that is less than those from `high` on.
+fn place_before<K: Ordered, V: Drop, L: Ledger>(
+    entries: &[(K, V)],
+    high: usize,
+    key: &K,
+    steps: &mut Steps<L>,
+) -> Result<usize, usize>
+    requires sorted { IsSorted K.order entries.now }
+    requires within { high ≤ length entries.now }
+    requires above { AreAbove K.order (drop high entries.now) key.now }
+    ensures found { IfOk result (λ place. HasKeyAt K.order entries.now place key.now) }
+    ensures absent { IfErr result (λ place. BelongsAt K.order entries.now place key.now) }
+    ensures counted { steps.old ≤ steps.new }
+    ensures cost { 2 ^ (steps.new - steps.old) ≤ 2 * high + 1 }
 {
     let mut low = 0;
-    let mut high = entries.len();
-    while low < high {
-        let middle = low + (high - low) / 2;
+    let mut end = high;
+    while low < end {
+        let middle = low + (end - low) / 2;
         match compared(key, &entries[middle].0, steps) {
-            Ordering::Less => high = middle,
+            Ordering::Less => end = middle,
             Ordering::Greater => low = middle + 1,
             Ordering::Equal => return Ok(middle),
         }
     }
     Err(low)
-}
-
-/// The place where a key that has no entry would stand; its steps are not told.
-pub(crate) fn gap_in<K: Ordered, V: Drop>(entries: &[(K, V)], key: &K) -> usize
-    requires sorted { IsSorted K.order entries.now }
-    requires absent { Lacks K.order entries.now key.now }
-    ensures { BelongsAt K.order entries.now result key.now }
-{
-    gap_from::<K, V, Brand>(entries, key, Blank::new(1))
-}
-
-fn gap_from<K: Ordered, V: Drop, L: Ledger>(entries: &[(K, V)], key: &K, blank: Blank) -> usize
-    requires sorted { IsSorted K.order entries.now }
-    requires absent { Lacks K.order entries.now key.now }
-    requires name { blank.name ≡ L.name }
-    requires parts { blank.parts ≡ L.parts }
-    requires some { 0 < blank.parts }
-    ensures { BelongsAt K.order entries.now result key.now }
-{
-    let mut steps: Steps<L> = Steps::new(blank);
-    match place_in(entries, key, &mut steps) {
-        Ok(_) => unreachable!(),
-        Err(place) => place,
-    }
 }

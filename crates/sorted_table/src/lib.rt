@@ -6,13 +6,13 @@
 
 mod flat;
 mod halving;
-mod laws;
+mod meanings;
 mod order;
 mod steps;
 mod table;
 
 pub use flat::FlatTable;
-pub use laws::table_laws;
+pub use meanings::table_laws;
 pub use order::Ordered;
 pub use steps::Steps;
 pub use table::{OrderedTable, find_place};

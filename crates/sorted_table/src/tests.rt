@@ -4,10 +4,12 @@ ghost use Rattle.std.specs.Cmp.{nat_cmp_total};
 ghost use Rattle.std.specs.FinMap.{nat_cmp-IsAntisymmetric};
 
 use super::*;
-use clone_values::{Key, Keys, NoMemory, Text};
+use clone_values::{Key, Keys, Text};
+use idb_base::NoMemory;
 use std::alloc::Global;
 use std::cmp::Ordering;
 use std::marker::Brand;
+use std::mem;
 use std::process::Abort;
 use std::sync::ledger::{Blank, Ledger};
 use std::test::Fail;
@@ -34,11 +36,38 @@ fn put_new<K: Ordered, V: Drop, T: OrderedTable<K, V>>(
     table_laws::<K, V>();
     match find_place(table, &key) {
         Ok(_) => Ok(false),
-        Err(_) => {
+        Err(place) => {
             table.reserve(1)?;
-            table.insert(key, value);
+            table.insert_at(place, key, value);
             Ok(true)
         }
+    }
+}
+
+/// The same by `insert`, which looks for the place again.
+fn insert_new<K: Ordered, V: Drop, T: OrderedTable<K, V>>(
+    table: &mut T,
+    key: K,
+    value: V,
+) -> Result<(), NoMemory> {
+    table_laws::<K, V>();
+    if let Err(_) = find_place(table, &key) {
+        table.reserve(1)?;
+        table.insert(key, value);
+    }
+    Ok(())
+}
+
+/// Puts another value into the entry of a key; the one that stood there.
+fn change<K: Ordered, V: Drop, T: OrderedTable<K, V>>(
+    table: &mut T,
+    key: &K,
+    value: V,
+) -> Option<V> {
+    table_laws::<K, V>();
+    match find_place(table, key) {
+        Ok(place) => Some(table.replace(place, value)),
+        Err(_) => None,
     }
 }
 
@@ -108,7 +137,26 @@ fn an_empty_table_has_one_gap(rt: HostRuntime) {
     assert!(rt; table.nth(0).is_none());
 }
 
-/// Six keys that rise by the standard's words (Indexed Database API 3.0, 2.4).
+/// An insertion finds its place by itself, and a replacement changes one value.
+#[test]
+fn entries_are_inserted_and_replaced(rt: HostRuntime) -> Result<(), Fail> {
+    let mut table: FlatTable<u64, u64> = FlatTable::new(rt.alloc());
+    for key in [20, 30, 10] {
+        insert_new(&mut table, key, 2 * key)?;
+    }
+    let before = change(&mut table, &20, 7);
+    let nothing = change(&mut table, &21, 7);
+    let mut shown = format!(in rt.alloc(); "{before:?} {nothing:?}")?;
+    for place in 0..3 {
+        if let Some((key, value)) = table.nth(place) {
+            write!(shown, " {key}:{value}")?;
+        }
+    }
+    assert_eq!(rt; shown.as_str(), "Some(40) None 10:20 20:7 30:60");
+    Ok(())
+}
+
+/// Six keys that rise by the standard's words (Indexed Database API 3.0, "compare two keys").
 fn rising_key(alloc: Global, place: usize) -> Result<Key, Fail> {
     Ok(match place {
         0 => Key::Number(-1),
@@ -165,6 +213,11 @@ impl Heap {
         }
     }
 
+    fn change(&mut self, key: u64, value: u64) -> Option<u64> {
+        let entry = self.entries.iter_mut().find(|entry| entry.0 == key)?;
+        Some(mem::replace(&mut entry.1, value))
+    }
+
     fn take(&mut self, key: u64) -> Option<u64> {
         match self.place_of(key) {
             Some(place) if place < self.entries.len() => Some(self.entries.swap_remove(place).1),
@@ -198,10 +251,10 @@ fn table_does_what_a_slow_program_does(rt: HostRuntime) -> Result<(), Fail> {
             .wrapping_mul(6364136223846793005)
             .wrapping_add(1442695040888963407);
         let key = (seed >> 33) % 97;
-        if (seed >> 60) % 5 < 3 {
-            assert_eq!(rt; put_new(&mut table, key, round)?, heap.put(key, round)?);
-        } else {
-            assert_eq!(rt; take(&mut table, &key), heap.take(key));
+        match (seed >> 60) % 5 {
+            0 | 1 => { assert_eq!(rt; put_new(&mut table, key, round)?, heap.put(key, round)?) }
+            2 => assert_eq!(rt; change(&mut table, &key, round), heap.change(key, round)),
+            _ => assert_eq!(rt; take(&mut table, &key), heap.take(key)),
         }
         let absent = (seed >> 20) % 97;
         if heap.place_of(absent).is_none() {

@@ -6,10 +6,9 @@ use Rattle.std.proofs.lemmas.Bool.{false_from_ne_true}
 use Rattle.clone_values.specs.Names.{names_of, is_rising}
 use Rattle.clone_values.specs.View.{prop_of}
 use Rattle.clone_values.specs.declared.value_types.Prop.{Prop}
-use Rattle.value_bytes.specs.declared.fields.ReadError.{ReadError}
-use Rattle.value_bytes.specs.declared.fields.ReadError.TheVariants as error
-use Rattle.value_bytes.proofs.Loop.{Fails}
-use Rattle.value_bytes.specs.Steps.{◌>>=◌, byte_at, string_at, text_at, checked_at}
+use Rattle.value_bytes.specs.declared.error.SpellingError.{SpellingError}
+use Rattle.value_bytes.specs.declared.error.SpellingError.TheVariants as error
+use Rattle.value_bytes.specs.Steps.{◌>>=◌, IsUnspelled, byte_at, string_at, text_at, checked_at}
 use Rattle.value_bytes.specs.KeyReading.{key_kind_of, key_body_at, key_at}
 use Rattle.value_bytes.specs.Reading.{kind_of, body_at, value_at}
 
@@ -32,7 +31,7 @@ key_step zero bs ne = absurd (ne refl)
 key_step (suc d) bs ne = let e : suc d - 1 ≡ d = omega arith in rw e refl
 
 module _ {K T : Type 0} (kinds : ℕ → Option K) (bodies : K → List ℕ → Option (T × List ℕ)) (bs : List ℕ) (whole : Option (T × List ℕ)) (step : whole ≡ (byte_at bs >>= λ b. kinds b.0 >>= λ k. bodies k b.1)) where
-  pub no_byte : (e : ReadError) → Fails e (byte_at bs) → Fails e whole
+  pub no_byte : (e : SpellingError) → IsUnspelled e (byte_at bs) → IsUnspelled e whole
   no_byte error.NoMemory h = tt
   no_byte error.NotInGrammar h = step ∙ rw h refl
 
@@ -54,7 +53,7 @@ passes c r bs x after e h = rw e (rw h refl)
 pub fails_test : {A : Type 0} (c : A → Bool) (r : List ℕ → Option (A × List ℕ)) (bs : List ℕ) (x : A) (after : List ℕ) → r bs ≡ Some (x, after) → c x ≡ false → checked_at c r bs ≡ None
 fails_test c r bs x after e h = rw e (rw h refl)
 
-pub fails_checked : {A : Type 0} (e : ReadError) (c : A → Bool) (r : List ℕ → Option (A × List ℕ)) (bs : List ℕ) → Fails e (r bs) → Fails e (checked_at c r bs)
+pub fails_checked : {A : Type 0} (e : SpellingError) (c : A → Bool) (r : List ℕ → Option (A × List ℕ)) (bs : List ℕ) → IsUnspelled e (r bs) → IsUnspelled e (checked_at c r bs)
 fails_checked error.NoMemory c r bs h = tt
 fails_checked error.NotInGrammar c r bs h = rw h refl
 

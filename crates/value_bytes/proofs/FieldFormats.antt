@@ -1,24 +1,23 @@
 -- The fields: counts, numbers, texts and lists.
-use Rattle.std.proofs.Common.{◌≡◌, ℕ, ◌<◌, ◌≤◌, ◌^◌, Bool, true, false, ◌&&◌, cond, ltb, ℤ, pos, negsuc, List, ◌++◌, length, take, drop, Option, Some, None, refl, sym, ap, subst, ◌∙◌, append_assoc, arith, w32, w64, to_z-of_z, FitsSigned}
+use Rattle.std.proofs.Common.{◌≡◌, ℕ, suc, ◌<◌, ◌≤◌, ◌^◌, Bool, true, false, ◌&&◌, cond, ltb, ℤ, pos, negsuc, List, [], ◌∷◌, ◌++◌, length, take, drop, Option, Some, None, refl, sym, ap, subst, ◌∙◌, append_assoc, arith, w32, w64, to_z-of_z, FitsSigned}
 use mir.ValLaws.{of_z_fits}
-use Rattle.std.specs.List.{flat_map, AllByRecursion}
+use Rattle.std.specs.List.{flat_map, list_all, AllByRecursion}
 use Rattle.std.specs.Int.{from_be_bytes, to_be_bytes, cast_signed, cast_unsigned}
 use Rattle.std.specs.Ordering.{int_cmp, is_le}
 use Rattle.std.specs.Int.Signed.{◌≤ℤ◌, ◌<ℤ◌}
-use Rattle.std.specs.Str.{IsUtf8, is_utf8}
+use Rattle.std.specs.Str.{is_utf8}
 use Rattle.std.specs.declared.cmp.Ordering.{Ordering}
 use Rattle.std.specs.declared.cmp.Ordering.TheVariants.{Less, Equal, Greater}
-use Rattle.std.proofs.lemmas.Bool.{ltb-false, le-ltb}
+use Rattle.std.proofs.lemmas.Bool.{ltb-false, le-ltb, lt-ltb}
 use Rattle.std.specs.Cmp.{first_so, second_so}
-use Rattle.std.proofs.lemmas.Str.{IsUtf8-from_is_utf8, is_utf8-from_IsUtf8}
 use Rattle.std.proofs.lemmas.Cmp.{int_ranked}
 use Rattle.std.proofs.lemmas.Int.{ints, of_z-to_z}
 use Rattle.std.proofs.lemmas.List.{take_at, drop_at, take-append-drop, length-append, length-take}
 use Rattle.std.proofs.lemmas.Nat.{be_bytes_4, be_bytes_8, from_be_bytes-to_be_bytes_4, from_be_bytes-to_be_bytes_8}
-use Rattle.clone_values.specs.WellFormed.{is_int, is_date}
-use Rattle.value_bytes.specs.Spelling.{count_bytes, number_bytes, string_bytes}
-use Rattle.value_bytes.specs.Steps.{◌>>=◌, front_at, count_at, number_at, string_at, text_at, many_at, counted_at, checked_at}
-use Rattle.value_bytes.proofs.Formats.{IsBytes, ahead, behind, bind_some, kept, some_is, Took, took_then, Format, checked, good_as, many_sound, many_again}
+use Rattle.clone_values.specs.WellFormed.{is_int, is_date, is_within_limit, is_text, is_byte, is_byte_string}
+use Rattle.value_bytes.specs.Spelling.{count_bytes, number_bytes, word_bytes, string_bytes}
+use Rattle.value_bytes.specs.Steps.{◌>>=◌, front_at, count_at, whole_number_at, word_at, string_at, text_at, many_at, counted_at, checked_at}
+use Rattle.value_bytes.proofs.Formats.{IsBytes, ahead, behind, bind_some, kept, some_is, Took, took_then, Format, checked, good_as, many_sound, many_again, within_limit, limit_within}
 
 nothing_kept : {A : Type 0} (b : Bool) (x y : A) → cond b None (Some x) ≡ Some y → (b ≡ false) × (x ≡ y)
 nothing_kept true x y e = absurd cc
@@ -50,11 +49,24 @@ count = record {
       ap (λ o. o >>= λ x. Some (from_be_bytes w32 x.0, x.1)) (front_again (count_bytes n) rest 4 refl) ∙ ap (λ m. Some (m, rest)) (from_be_bytes-to_be_bytes_4 n lt);
 }
 
+pub word : Format word_at word_bytes (λ n. n < 2 ^ 64)
+word = record {
+  sound = λ bs x fits e.
+      let a = bind_some (front_at 8 bs) (λ y. Some (from_be_bytes w64 y.0, y.1)) x e in
+      let front = front_sound 8 bs a.0 fits a.1 in
+      let fine : IsBytes a.0.0 = ahead a.0.0 a.0.1 (subst IsBytes front.0.parts fits) in
+      let back = be_bytes_8 a.0.0 (from_be_bytes w64 a.0.0) front.1 fine refl in
+      subst (λ (y : ℕ × List ℕ). Took bs (word_bytes y.0) y.1 × (y.0 < 2 ^ 64)) (some_is (from_be_bytes w64 a.0.0, a.0.1) x a.2)
+      (subst (λ (w : List ℕ). Took bs w a.0.1) (sym back) front.0, omega (arith, fine 0, fine 1, fine 2, fine 3, fine 4, fine 5, fine 6, fine 7));
+  again = λ n rest lt.
+      ap (λ o. o >>= λ x. Some (from_be_bytes w64 x.0, x.1)) (front_again (word_bytes n) rest 8 refl) ∙ ap (λ m. Some (m, rest)) (from_be_bytes-to_be_bytes_8 n lt);
+}
+
 -- a number within what eight bytes hold, where the test says so
-pub number : (c : ℤ → Bool) → ((z : ℤ) → c z ≡ true → FitsSigned w64 z) → Format (checked_at c number_at) number_bytes (λ z. c z ≡ true)
+pub number : (c : ℤ → Bool) → ((z : ℤ) → c z ≡ true → FitsSigned w64 z) → Format (checked_at c whole_number_at) number_bytes (λ z. c z ≡ true)
 number c fine = record {
   sound = λ bs x fits e.
-      let a = bind_some (number_at bs) (λ y. cond (c y.0) (Some y) None) x e in
+      let a = bind_some (whole_number_at bs) (λ y. cond (c y.0) (Some y) None) x e in
       let b = bind_some (front_at 8 bs) (λ y. Some (cast_signed w64 (from_be_bytes w64 y.0), y.1)) a.0 a.1 in
       let front = front_sound 8 bs b.0 fits b.1 in
       let within : IsBytes b.0.0 = ahead b.0.0 b.0.1 (subst IsBytes front.0.parts fits) in
@@ -65,7 +77,7 @@ number c fine = record {
       (subst (λ (y : ℤ × List ℕ). Took bs (number_bytes y.0) y.1) (read ∙ k.1) (subst (λ (w : List ℕ). Took bs w b.0.1) (sym back) front.0), ap (λ (y : ℤ × List ℕ). c y.0) (sym k.1) ∙ k.0);
   again = λ z rest good.
       let same : cast_signed w64 (from_be_bytes w64 (number_bytes z)) ≡ z = ap (cast_signed w64) (from_be_bytes-to_be_bytes_8 (cast_unsigned w64 z) (omega (arith, of_z_fits w64 z (fine z good)))) ∙ to_z-of_z (fine z good) in
-      let read : number_at (number_bytes z ++ rest) ≡ Some (z, rest) = ap (λ o. o >>= λ x. Some (cast_signed w64 (from_be_bytes w64 x.0), x.1)) (front_again (number_bytes z) rest 8 refl) ∙ ap (λ m. Some (m, rest)) same in
+      let read : whole_number_at (number_bytes z ++ rest) ≡ Some (z, rest) = ap (λ o. o >>= λ x. Some (cast_signed w64 (from_be_bytes w64 x.0), x.1)) (front_again (number_bytes z) rest 8 refl) ∙ ap (λ m. Some (m, rest)) same in
       ap (λ o. o >>= λ y. cond (c y.0) (Some y) None) read ∙ rw good refl;
 }
 
@@ -98,11 +110,24 @@ string = record {
 }
 
 abbrev pub IsText : List ℕ → Type 0
-IsText s = (length s < 2 ^ 32) × IsUtf8 s
+IsText s = is_text s ≡ true
 
 pub text : Format text_at string_bytes IsText
 text = good_as text_at string_bytes (λ s. (length s < 2 ^ 32) × (is_utf8 s ≡ true)) IsText
-    (λ s g. (g.0, IsUtf8-from_is_utf8 s g.1)) (λ s g. (g.0, is_utf8-from_IsUtf8 s g.1)) (checked is_utf8 string_at string_bytes (λ s. length s < 2 ^ 32) string)
+    (λ s g i. g.1 i && within_limit s g.0 i) (λ s g. (limit_within s (second_so (is_utf8 s) (is_within_limit s) g), first_so (is_utf8 s) (is_within_limit s) g)) (checked is_utf8 string_at string_bytes (λ s. length s < 2 ^ 32) string)
+
+all_bytes : (s : List ℕ) → IsBytes s → list_all is_byte s ≡ true
+all_bytes [] h = refl
+all_bytes (x ∷ s) h = let here = lt-ltb x 256 (h 0) in λ i. here i && all_bytes s (λ j. h (suc j)) i
+
+pub byte_string : Format string_at string_bytes (λ s. is_byte_string s ≡ true)
+byte_string = record {
+  sound = λ bs x fits e.
+      let got = string.sound bs x fits e in
+      let fine = behind (count_bytes (length x.0)) x.0 (ahead (string_bytes x.0) x.1 (subst IsBytes got.0.parts fits)) in
+      (got.0, λ i. all_bytes x.0 fine i && within_limit x.0 got.1 i);
+  again = λ s rest good. string.again s rest (limit_within s (second_so (list_all is_byte s) (is_within_limit s) good));
+}
 
 -- ---- lists
 pub counted : {A : Type 0} (r : List ℕ → Option (A × List ℕ)) (spell : A → List ℕ) (Good : A → Type 0) → Format r spell Good

@@ -4,10 +4,9 @@ use Rattle.std.specs.List.{flat_map, AllByRecursion, list_all}
 use Rattle.std.specs.Cmp.{first_so, second_so}
 use Rattle.clone_values.specs.Tree.{Tree, Trees, Members, PairTrees, no_trees, tree_more, no_members, member_more, no_pairs, pair_more, trees_of, members_of, pairs_of, list_of_trees, list_of_members, list_of_pairs}
 use Rattle.clone_values.specs.Names.{names_of}
-use Rattle.clone_values.specs.WellFormed.{is_value, are_values, member_values, pair_values, is_within_limit}
+use Rattle.clone_values.specs.WellFormed.{is_value, are_values, member_values, pair_values, is_text}
 use Rattle.clone_values.specs.Values.{depth_of, trees_depth, members_depth, pairs_depth, holds_function, trees_hold_function, members_hold_function, pairs_hold_function}
-use Rattle.value_bytes.specs.Spelling.{string_bytes, spelling_of, items_spelling, members_spelling, pairs_spelling, IsUnicode, ItemsAreUnicode, MembersAreUnicode, PairsAreUnicode}
-use Rattle.value_bytes.proofs.Formats.{within_limit, limit_within}
+use Rattle.value_bytes.specs.Spelling.{string_bytes, spelling_of, items_spelling, members_spelling, pairs_spelling}
 use Rattle.value_bytes.proofs.FieldFormats.{IsText}
 
 -- a value of that depth at most may be spelled
@@ -15,7 +14,6 @@ pub record Fits (d : ℕ) (t : Tree) : Type 0 where
   pub formed : is_value t ≡ true
   pub plain : holds_function t ≡ false
   pub depth : depth_of t ≤ d
-  pub unicode : IsUnicode t
 
 abbrev pub MemberFits : ℕ → List ℕ × Tree → Type 0
 MemberFits d m = IsText m.0 × Fits d m.1
@@ -27,20 +25,17 @@ pub record ItemsFit (d : ℕ) (ts : Trees) : Type 0 where
   pub formed : are_values ts ≡ true
   pub plain : trees_hold_function ts ≡ false
   pub depth : trees_depth ts ≤ d
-  pub unicode : ItemsAreUnicode ts
 
 pub record MembersFit (d : ℕ) (ms : Members) : Type 0 where
   pub formed : member_values ms ≡ true
-  pub names : list_all is_within_limit (names_of (list_of_members ms)) ≡ true
+  pub names : list_all is_text (names_of (list_of_members ms)) ≡ true
   pub plain : members_hold_function ms ≡ false
   pub depth : members_depth ms ≤ d
-  pub unicode : MembersAreUnicode ms
 
 pub record PairsFit (d : ℕ) (ps : PairTrees) : Type 0 where
   pub formed : pair_values ps ≡ true
   pub plain : pairs_hold_function ps ≡ false
   pub depth : pairs_depth ps ≤ d
-  pub unicode : PairsAreUnicode ps
 
 -- ---- both of two tests, neither of two
 pub neither : (s t : Bool) → (s || t) ≡ false → (s ≡ false) × (t ≡ false)
@@ -49,44 +44,43 @@ neither true t h = absurd cc
 
 module _ (d : ℕ) where
   pub items_fit : (ts : List Tree) → AllByRecursion (Fits d) ts → ItemsFit d (trees_of ts)
-  items_fit [] h = record { formed = refl; plain = refl; depth = omega arith; unicode = tt }
+  items_fit [] h = record { formed = refl; plain = refl; depth = omega arith }
   items_fit (t ∷ ts) h =
       let one = h.0 in
       let more = items_fit ts h.1 in
-      record { formed = λ i. one.formed i && more.formed i; plain = λ i. one.plain i || more.plain i; depth = omega (arith, one.depth, more.depth); unicode = (one.unicode, more.unicode) }
+      record { formed = λ i. one.formed i && more.formed i; plain = λ i. one.plain i || more.plain i; depth = omega (arith, one.depth, more.depth) }
 
   pub items_each : (ts : Trees) → ItemsFit d ts → AllByRecursion (Fits d) (list_of_trees ts)
   items_each no_trees f = tt
   items_each (tree_more t ts) f =
       let functions = neither (holds_function t) (trees_hold_function ts) f.plain in (
-        record { formed = first_so (is_value t) (are_values ts) f.formed; plain = functions.0; depth = omega (arith, f.depth); unicode = f.unicode.0 },
-        items_each ts (record { formed = second_so (is_value t) (are_values ts) f.formed; plain = functions.1; depth = omega (arith, f.depth); unicode = f.unicode.1 }),
+        record { formed = first_so (is_value t) (are_values ts) f.formed; plain = functions.0; depth = omega (arith, f.depth) },
+        items_each ts (record { formed = second_so (is_value t) (are_values ts) f.formed; plain = functions.1; depth = omega (arith, f.depth) }),
       )
 
   pub members_fit : (ms : List (List ℕ × Tree)) → AllByRecursion (MemberFits d) ms → MembersFit d (members_of ms)
-  members_fit [] h = record { formed = refl; names = refl; plain = refl; depth = omega arith; unicode = tt }
+  members_fit [] h = record { formed = refl; names = refl; plain = refl; depth = omega arith }
   members_fit (m ∷ ms) h =
       let one = h.0.1 in
       let more = members_fit ms h.1 in
-      let name = within_limit m.0 h.0.0.0 in
-      record { formed = λ i. one.formed i && more.formed i; names = λ i. name i && more.names i; plain = λ i. one.plain i || more.plain i; depth = omega (arith, one.depth, more.depth); unicode = (h.0.0.1, one.unicode, more.unicode) }
+      record { formed = λ i. one.formed i && more.formed i; names = λ i. h.0.0 i && more.names i; plain = λ i. one.plain i || more.plain i; depth = omega (arith, one.depth, more.depth) }
 
   pub members_each : (ms : Members) → MembersFit d ms → AllByRecursion (MemberFits d) (list_of_members ms)
   members_each no_members f = tt
   members_each (member_more n t ms) f =
       let functions = neither (holds_function t) (members_hold_function ms) f.plain in
-      let name = first_so (is_within_limit n) (list_all is_within_limit (names_of (list_of_members ms))) f.names in (
-        ((limit_within n name, f.unicode.0), record { formed = first_so (is_value t) (member_values ms) f.formed; plain = functions.0; depth = omega (arith, f.depth); unicode = f.unicode.1 }),
-        members_each ms (record { formed = second_so (is_value t) (member_values ms) f.formed; names = second_so (is_within_limit n) (list_all is_within_limit (names_of (list_of_members ms))) f.names; plain = functions.1; depth = omega (arith, f.depth); unicode = f.unicode.2 }),
+      let names = list_all is_text (names_of (list_of_members ms)) in (
+        (first_so (is_text n) names f.names, record { formed = first_so (is_value t) (member_values ms) f.formed; plain = functions.0; depth = omega (arith, f.depth) }),
+        members_each ms (record { formed = second_so (is_value t) (member_values ms) f.formed; names = second_so (is_text n) names f.names; plain = functions.1; depth = omega (arith, f.depth) }),
       )
 
   pub pairs_fit : (ps : List (Tree × Tree)) → AllByRecursion (PairFits d) ps → PairsFit d (pairs_of ps)
-  pairs_fit [] h = record { formed = refl; plain = refl; depth = omega arith; unicode = tt }
+  pairs_fit [] h = record { formed = refl; plain = refl; depth = omega arith }
   pairs_fit (p ∷ ps) h =
       let key = h.0.0 in
       let value = h.0.1 in
       let more = pairs_fit ps h.1 in
-      record { formed = λ i. key.formed i && value.formed i && more.formed i; plain = λ i. key.plain i || value.plain i || more.plain i; depth = omega (arith, key.depth, value.depth, more.depth); unicode = (key.unicode, value.unicode, more.unicode) }
+      record { formed = λ i. key.formed i && value.formed i && more.formed i; plain = λ i. key.plain i || value.plain i || more.plain i; depth = omega (arith, key.depth, value.depth, more.depth) }
 
   pub pairs_each : (ps : PairTrees) → PairsFit d ps → AllByRecursion (PairFits d) (list_of_pairs ps)
   pairs_each no_pairs f = tt
@@ -95,10 +89,10 @@ module _ (d : ℕ) where
       let two = neither (holds_function s) (holds_function t) functions.0 in
       let front = first_so (is_value s && is_value t) (pair_values ps) f.formed in (
         (
-          record { formed = first_so (is_value s) (is_value t) front; plain = two.0; depth = omega (arith, f.depth); unicode = f.unicode.0 },
-          record { formed = second_so (is_value s) (is_value t) front; plain = two.1; depth = omega (arith, f.depth); unicode = f.unicode.1 },
+          record { formed = first_so (is_value s) (is_value t) front; plain = two.0; depth = omega (arith, f.depth) },
+          record { formed = second_so (is_value s) (is_value t) front; plain = two.1; depth = omega (arith, f.depth) },
         ),
-        pairs_each ps (record { formed = second_so (is_value s && is_value t) (pair_values ps) f.formed; plain = functions.1; depth = omega (arith, f.depth); unicode = f.unicode.2 }),
+        pairs_each ps (record { formed = second_so (is_value s && is_value t) (pair_values ps) f.formed; plain = functions.1; depth = omega (arith, f.depth) }),
       )
 
 -- ---- the lists of a tree as plain lists, and back

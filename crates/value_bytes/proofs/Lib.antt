@@ -2,7 +2,9 @@ pub mod Loop
 pub mod Bodies
 pub mod Formats
 pub mod FieldFormats
+pub mod Grammars
 pub mod Fits
 pub mod Values
 pub mod KeyValues
 pub mod Puts
+pub mod Laws

@@ -1,18 +1,13 @@
 -- Reading members one after the other, as a loop does.
 use Rattle.std.proofs.Common.{◌≡◌, ℕ, suc, ◌-◌, ◌+◌, ◌≤◌, ◌<◌, List, [], ◌∷◌, ◌++◌, length, drop, min, Option, Some, None, refl, sym, ap, ◌∙◌, append_assoc, arith}
 use Rattle.std.proofs.lemmas.List.{append-nil, drop_all}
-use Rattle.value_bytes.specs.declared.fields.ReadError.{ReadError}
-use Rattle.value_bytes.specs.declared.fields.ReadError.TheVariants as error
-use Rattle.value_bytes.specs.Steps.{◌>>=◌, many_at}
+use Rattle.value_bytes.specs.declared.error.SpellingError.{SpellingError}
+use Rattle.value_bytes.specs.declared.error.SpellingError.TheVariants as error
+use Rattle.value_bytes.specs.Steps.{◌>>=◌, IsUnspelled, many_at}
 
 -- what was read before, and what is still read
 abbrev pub with_front : {A : Type 0} → List A → Option (List A × List ℕ) → Option (List A × List ℕ)
 with_front front read = read >>= λ x. Some (front ++ x.0, x.1)
-
--- an error is what reading gives
-abbrev pub Fails : {Y : Type 0} → ReadError → Option Y → Type 0
-Fails error.NotInGrammar read = read ≡ None
-Fails error.NoMemory read = Unit {0}
 
 module _ {A : Type 0} (r : List ℕ → Option (A × List ℕ)) (count i : ℕ) (bytes : List ℕ) (total : Option (List A × List ℕ)) where
   regroup : (front : List A) (n : A) (read : Option (List A × List ℕ)) → with_front front (read >>= λ x. Some (n ∷ x.0, x.1)) ≡ with_front (front ++ n ∷ []) read
@@ -27,7 +22,7 @@ module _ {A : Type 0} (r : List ℕ → Option (A × List ℕ)) (count i : ℕ) 
       let one : with_front front (many_at r (count - i) bytes) ≡ with_front (front ++ n ∷ []) (many_at r (count - (i + 1)) after) = rw (k, h) (regroup front n (many_at r (count - (i + 1)) after)) in
       sym one ∙ so_far
 
-  pub ends : (e : ReadError) (front : List A) → i < count → Fails e (r bytes) → with_front front (many_at r (count - i) bytes) ≡ total → Fails e total
+  pub ends : (e : SpellingError) (front : List A) → i < count → IsUnspelled e (r bytes) → with_front front (many_at r (count - i) bytes) ≡ total → IsUnspelled e total
   unfolding many_at
   ends error.NoMemory front lt h so_far = tt
   ends error.NotInGrammar front lt h so_far =

@@ -2,23 +2,20 @@
 use Rattle.std.proofs.Common.{◌≡◌, ℕ, zero, suc, ◌-◌, ◌<◌, ◌≤◌, ◌^◌, Bool, true, false, ◌&&◌, ◌||◌, List, [], ◌∷◌, ◌++◌, length, drop, map, Some, refl, sym, ap, subst, ◌∙◌, arith, true≢false}
 use Rattle.std.specs.List.{flat_map, AllByRecursion, list_all}
 use Rattle.std.specs.Cmp.{first_so, second_so}
-use Rattle.std.proofs.lemmas.List.{append-nil}
 use Rattle.clone_values.specs.Tree.{Tree, Trees, Members, PairTrees, undefined, null, boolean, int, text, date, bytes, array, object, map_object, set_object, function, trees_of, members_of, pairs_of, list_of_trees, list_of_members, list_of_pairs}
 use Rattle.clone_values.specs.Names.{names_of, is_rising}
-use Rattle.clone_values.specs.WellFormed.{are_values, member_values, pair_values, is_within_limit, is_int, is_date, are_once, is_array_name, are_properties}
+use Rattle.clone_values.specs.WellFormed.{are_values, member_values, pair_values, is_within_limit, is_text, is_byte_string, is_int, is_date, are_once, is_array_name, are_properties}
 use Rattle.clone_values.specs.Values.{depth_of, members_depth, members_hold_function, trees_hold_function}
-use Rattle.clone_values.proofs.Lists.{trees_again, members_again, pairs_again}
+use Rattle.clone_values.proofs.Laws.{trees_again, members_again, pairs_again}
 use Rattle.value_bytes.specs.declared.kinds.Kind.{Kind}
 use Rattle.value_bytes.specs.declared.kinds.Kind.TheVariants as kind
-use Rattle.value_bytes.specs.declared.fields.ReadError.{ReadError}
-use Rattle.value_bytes.specs.declared.fields.ReadError.TheVariants as error
-use Rattle.value_bytes.proofs.Loop.{Fails}
-use Rattle.value_bytes.specs.Spelling.{count_bytes, number_bytes, string_bytes, MembersAreUnicode, SpellsValue, ValueStands, spelling_of, items_spelling, members_spelling, pairs_spelling}
-use Rattle.value_bytes.specs.Steps.{◌>>=◌, byte_at, number_at, string_at, text_at, mapped_at, checked_at, pair_at, counted_at}
+use Rattle.value_bytes.specs.Spelling.{count_bytes, number_bytes, string_bytes, SpellsValue, spelling_of, items_spelling, members_spelling, pairs_spelling}
+use Rattle.value_bytes.specs.Steps.{◌>>=◌, byte_at, whole_number_at, string_at, text_at, mapped_at, checked_at, pair_at, counted_at}
 use Rattle.value_bytes.specs.Reading.{kind_of, properties_at, array_at, map_at, set_at, body_at, value_at}
-use Rattle.value_bytes.proofs.Formats.{IsBytes, behind, bind_some, some_is, Took, Format, checked, pair, apart, stands, none_stands, this_kind, first_byte, Gave, made, remade, within_limit, limit_within}
-use Rattle.value_bytes.proofs.FieldFormats.{number, int_fits, date_fits, string, IsText, counted}
+use Rattle.value_bytes.proofs.Formats.{IsBytes, behind, bind_some, some_is, Took, Format, checked, pair, this_kind, first_byte, Gave, made, remade, within_limit, limit_within}
+use Rattle.value_bytes.proofs.FieldFormats.{number, int_fits, date_fits, byte_string, IsText, counted}
 use Rattle.value_bytes.proofs.FieldFormats as field
+use Rattle.value_bytes.proofs.Grammars.{Grammar}
 use Rattle.value_bytes.proofs.Fits.{Fits, MemberFits, PairFits, neither, items_fit, items_each, members_fit, members_each, pairs_fit, pairs_each, trees_listed, members_listed, pairs_listed, member_bytes, pair_bytes, items_bytes, members_bytes, pairs_bytes}
 
 -- ---- the byte of a kind
@@ -111,10 +108,10 @@ module _ (d : ℕ) (value : Format (value_at d) spelling_of (Fits d)) where
       let names = (members_fit d ms good.0.1).names in
       λ i. limit i && names i && rising i
 
-  props_good : (ms : Members) → member_values ms ≡ true → are_properties (list_of_members ms) ≡ true → members_hold_function ms ≡ false → members_depth ms ≤ d → MembersAreUnicode ms → PropsGood (list_of_members ms)
-  props_good ms formed named plain depth unicode =
-      let parts = three (is_within_limit (list_of_members ms)) (list_all is_within_limit (names_of (list_of_members ms))) (is_rising (names_of (list_of_members ms))) named in
-      ((limit_within (list_of_members ms) parts.0, members_each d ms (record { formed = formed; names = parts.1; plain = plain; depth = depth; unicode = unicode })), parts.2)
+  props_good : (ms : Members) → member_values ms ≡ true → are_properties (list_of_members ms) ≡ true → members_hold_function ms ≡ false → members_depth ms ≤ d → PropsGood (list_of_members ms)
+  props_good ms formed named plain depth =
+      let parts = three (is_within_limit (list_of_members ms)) (list_all is_text (names_of (list_of_members ms))) (is_rising (names_of (list_of_members ms))) named in
+      ((limit_within (list_of_members ms) parts.0, members_each d ms (record { formed = formed; names = parts.1; plain = plain; depth = depth })), parts.2)
 
   array_fits : (x : List Tree × List (List ℕ × Tree)) → (ItemsGood x.0 × PropsGood x.1) × (list_all is_array_name (names_of x.1) ≡ true)
       → (8 ∷ (items_word x.0 ++ props_word x.1) ≡ spelling_of (array (trees_of x.0) (members_of x.1))) × Fits (suc d) (array (trees_of x.0) (members_of x.1))
@@ -125,45 +122,45 @@ module _ (d : ℕ) (value : Format (value_at d) spelling_of (Fits d)) where
       let named = props_formed x.1 good.0.1 in
       let may : list_all is_array_name (names_of (list_of_members (members_of x.1))) ≡ true = ap (λ (l : List (List ℕ × Tree)). list_all is_array_name (names_of l)) (members_again x.1) ∙ good.1 in (
         λ i. 8 ∷ (items_again x.0 i ++ props_again x.1 i),
-        record { formed = λ i. ts.formed i && limit i && ms.formed i && named i && may i; plain = λ i. ts.plain i || ms.plain i; depth = omega (arith, ts.depth, ms.depth); unicode = (ts.unicode, ms.unicode) },
+        record { formed = λ i. ts.formed i && limit i && ms.formed i && named i && may i; plain = λ i. ts.plain i || ms.plain i; depth = omega (arith, ts.depth, ms.depth) },
       )
 
   object_fits : (ms : List (List ℕ × Tree)) → PropsGood ms → (9 ∷ props_word ms ≡ spelling_of (object (members_of ms))) × Fits (suc d) (object (members_of ms))
   object_fits ms good =
       let fit = members_fit d ms good.0.1 in
       let named = props_formed ms good in
-      (ap (λ w. 9 ∷ w) (props_again ms), record { formed = λ i. fit.formed i && named i; plain = fit.plain; depth = omega (arith, fit.depth); unicode = fit.unicode })
+      (ap (λ w. 9 ∷ w) (props_again ms), record { formed = λ i. fit.formed i && named i; plain = fit.plain; depth = omega (arith, fit.depth) })
 
   map_fits : (ps : List (Tree × Tree)) → PairsGood ps × (are_once (map (λ p. p.0) ps) ≡ true) → (10 ∷ pairs_word ps ≡ spelling_of (map_object (pairs_of ps))) × Fits (suc d) (map_object (pairs_of ps))
   map_fits ps good =
       let fit = pairs_fit d ps good.0.1 in
       let limit : is_within_limit (list_of_pairs (pairs_of ps)) ≡ true = ap (λ (l : List (Tree × Tree)). is_within_limit l) (pairs_again ps) ∙ within_limit ps good.0.0 in
       let once : are_once (map (λ p. p.0) (list_of_pairs (pairs_of ps))) ≡ true = ap (λ (l : List (Tree × Tree)). are_once (map (λ p. p.0) l)) (pairs_again ps) ∙ good.1 in
-      (ap (λ w. 10 ∷ w) (pairs_once_more ps), record { formed = λ i. fit.formed i && limit i && once i; plain = fit.plain; depth = omega (arith, fit.depth); unicode = fit.unicode })
+      (ap (λ w. 10 ∷ w) (pairs_once_more ps), record { formed = λ i. fit.formed i && limit i && once i; plain = fit.plain; depth = omega (arith, fit.depth) })
 
   set_fits : (ts : List Tree) → ItemsGood ts × (are_once ts ≡ true) → (11 ∷ items_word ts ≡ spelling_of (set_object (trees_of ts))) × Fits (suc d) (set_object (trees_of ts))
   set_fits ts good =
       let fit = items_fit d ts good.0.1 in
       let limit : is_within_limit (list_of_trees (trees_of ts)) ≡ true = ap (λ (l : List Tree). is_within_limit l) (trees_again ts) ∙ within_limit ts good.0.0 in
       let once : are_once (list_of_trees (trees_of ts)) ≡ true = ap are_once (trees_again ts) ∙ good.1 in
-      (ap (λ w. 11 ∷ w) (items_again ts), record { formed = λ i. fit.formed i && limit i && once i; plain = fit.plain; depth = omega (arith, fit.depth); unicode = fit.unicode })
+      (ap (λ w. 11 ∷ w) (items_again ts), record { formed = λ i. fit.formed i && limit i && once i; plain = fit.plain; depth = omega (arith, fit.depth) })
 
   single : (b : ℕ) (t : Tree) (bs : List ℕ) (x : Tree × List ℕ) → spelling_of t ≡ b ∷ [] → Fits (suc d) t → IsBytes bs → Some (t, bs) ≡ Some x → Gave spelling_of (Fits (suc d)) (b ∷ bs) x
   single b t bs x word fine fits e = subst (λ y. Gave spelling_of (Fits (suc d)) (b ∷ bs) y) (some_is (t, bs) x e) (record { parts = ap (λ w. w ++ bs) (sym word); rest = fits; fits = fine })
 
   body_sound : (k : Kind) (bs : List ℕ) (x : Tree × List ℕ) → IsBytes bs → body_at (value_at d) k bs ≡ Some x → Gave spelling_of (Fits (suc d)) (byte_of k ∷ bs) x
-  body_sound kind.Undefined bs x = single 0 undefined bs x refl (record { formed = refl; plain = refl; depth = omega arith; unicode = tt })
-  body_sound kind.Null bs x = single 1 null bs x refl (record { formed = refl; plain = refl; depth = omega arith; unicode = tt })
-  body_sound kind.False bs x = single 2 (boolean false) bs x refl (record { formed = refl; plain = refl; depth = omega arith; unicode = tt })
-  body_sound kind.True bs x = single 3 (boolean true) bs x refl (record { formed = refl; plain = refl; depth = omega arith; unicode = tt })
-  body_sound kind.Int bs x = made spelling_of (Fits (suc d)) 4 int (checked_at is_int number_at) number_bytes (λ z. is_int z ≡ true) (number is_int int_fits)
-      (λ z good. (refl, record { formed = good; plain = refl; depth = omega arith; unicode = tt })) bs x
+  body_sound kind.Undefined bs x = single 0 undefined bs x refl (record { formed = refl; plain = refl; depth = omega arith })
+  body_sound kind.Null bs x = single 1 null bs x refl (record { formed = refl; plain = refl; depth = omega arith })
+  body_sound kind.False bs x = single 2 (boolean false) bs x refl (record { formed = refl; plain = refl; depth = omega arith })
+  body_sound kind.True bs x = single 3 (boolean true) bs x refl (record { formed = refl; plain = refl; depth = omega arith })
+  body_sound kind.Int bs x = made spelling_of (Fits (suc d)) 4 int (checked_at is_int whole_number_at) number_bytes (λ z. is_int z ≡ true) (number is_int int_fits)
+      (λ z good. (refl, record { formed = good; plain = refl; depth = omega arith })) bs x
   body_sound kind.Text bs x = made spelling_of (Fits (suc d)) 5 text text_at string_bytes IsText field.text
-      (λ s good. (refl, record { formed = within_limit s good.0; plain = refl; depth = omega arith; unicode = good.1 })) bs x
-  body_sound kind.Date bs x = made spelling_of (Fits (suc d)) 6 date (checked_at is_date number_at) number_bytes (λ z. is_date z ≡ true) (number is_date date_fits)
-      (λ z good. (refl, record { formed = good; plain = refl; depth = omega arith; unicode = tt })) bs x
-  body_sound kind.Bytes bs x = made spelling_of (Fits (suc d)) 7 bytes string_at string_bytes (λ s. length s < 2 ^ 32) string
-      (λ s good. (refl, record { formed = within_limit s good; plain = refl; depth = omega arith; unicode = tt })) bs x
+      (λ s good. (refl, record { formed = good; plain = refl; depth = omega arith })) bs x
+  body_sound kind.Date bs x = made spelling_of (Fits (suc d)) 6 date (checked_at is_date whole_number_at) number_bytes (λ z. is_date z ≡ true) (number is_date date_fits)
+      (λ z good. (refl, record { formed = good; plain = refl; depth = omega arith })) bs x
+  body_sound kind.Bytes bs x = made spelling_of (Fits (suc d)) 7 bytes string_at string_bytes (λ s. is_byte_string s ≡ true) byte_string
+      (λ s good. (refl, record { formed = good; plain = refl; depth = omega arith })) bs x
   body_sound kind.Array bs x = made spelling_of (Fits (suc d)) 8 (λ y. array (trees_of y.0) (members_of y.1)) (array_at (value_at d)) (λ y. items_word y.0 ++ props_word y.1)
       (λ y. (ItemsGood y.0 × PropsGood y.1) × (list_all is_array_name (names_of y.1) ≡ true)) arrays array_fits bs x
   body_sound kind.Object bs x = made spelling_of (Fits (suc d)) 9 (λ ms. object (members_of ms)) (properties_at (value_at d)) props_word PropsGood props object_fits bs x
@@ -185,37 +182,37 @@ module _ (d : ℕ) (value : Format (value_at d) spelling_of (Fits d)) where
   value_again null rest f = refl
   value_again (boolean false) rest f = refl
   value_again (boolean true) rest f = refl
-  value_again (int z) rest f = remade int (checked_at is_int number_at) number_bytes (λ n. is_int n ≡ true) (number is_int int_fits) z rest f.formed
-  value_again (text s) rest f = remade text text_at string_bytes IsText field.text s rest (limit_within s f.formed, f.unicode)
-  value_again (date z) rest f = remade date (checked_at is_date number_at) number_bytes (λ n. is_date n ≡ true) (number is_date date_fits) z rest f.formed
-  value_again (bytes s) rest f = remade bytes string_at string_bytes (λ b. length b < 2 ^ 32) string s rest (limit_within s f.formed)
+  value_again (int z) rest f = remade int (checked_at is_int whole_number_at) number_bytes (λ n. is_int n ≡ true) (number is_int int_fits) z rest f.formed
+  value_again (text s) rest f = remade text text_at string_bytes IsText field.text s rest f.formed
+  value_again (date z) rest f = remade date (checked_at is_date whole_number_at) number_bytes (λ n. is_date n ≡ true) (number is_date date_fits) z rest f.formed
+  value_again (bytes s) rest f = remade bytes string_at string_bytes (λ b. is_byte_string b ≡ true) byte_string s rest f.formed
   value_again (array ts ms) rest f =
       let last = first_so (are_values ts && is_within_limit (list_of_trees ts) && member_values ms && are_properties (list_of_members ms)) (list_all is_array_name (names_of (list_of_members ms))) f.formed in
       let may = second_so (are_values ts && is_within_limit (list_of_trees ts) && member_values ms && are_properties (list_of_members ms)) (list_all is_array_name (names_of (list_of_members ms))) f.formed in
       let parts = three (are_values ts && is_within_limit (list_of_trees ts)) (member_values ms) (are_properties (list_of_members ms)) last in
       let plain = neither (trees_hold_function ts) (members_hold_function ms) f.plain in
-      let each = items_each d ts (record { formed = first_so (are_values ts) (is_within_limit (list_of_trees ts)) parts.0; plain = plain.0; depth = omega (arith, f.depth); unicode = f.unicode.0 }) in
+      let each = items_each d ts (record { formed = first_so (are_values ts) (is_within_limit (list_of_trees ts)) parts.0; plain = plain.0; depth = omega (arith, f.depth) }) in
       let limit = limit_within (list_of_trees ts) (second_so (are_values ts) (is_within_limit (list_of_trees ts)) parts.0) in
-      let named = props_good ms parts.1 parts.2 plain.1 (omega (arith, f.depth)) f.unicode.1 in
+      let named = props_good ms parts.1 parts.2 plain.1 (omega (arith, f.depth)) in
       (λ i. mapped_at (λ l. array (trees_of l.0) (members_of l.1)) (array_at (value_at d)) ((items_same ts i ++ props_same ms i) ++ rest))
       ∙ remade (λ l. array (trees_of l.0) (members_of l.1)) (array_at (value_at d)) (λ l. items_word l.0 ++ props_word l.1)
       (λ l. (ItemsGood l.0 × PropsGood l.1) × (list_all is_array_name (names_of l.1) ≡ true)) arrays (list_of_trees ts, list_of_members ms) rest (((limit, each), named), may)
       ∙ (λ i. Some (array (trees_listed ts i) (members_listed ms i), rest))
   value_again (object ms) rest f =
       let parts = second_so (member_values ms) (are_properties (list_of_members ms)) f.formed in
-      let good = props_good ms (first_so (member_values ms) (are_properties (list_of_members ms)) f.formed) parts f.plain (omega (arith, f.depth)) f.unicode in
+      let good = props_good ms (first_so (member_values ms) (are_properties (list_of_members ms)) f.formed) parts f.plain (omega (arith, f.depth)) in
       ap (λ w. mapped_at (λ l. object (members_of l)) (properties_at (value_at d)) (w ++ rest)) (props_same ms)
       ∙ remade (λ l. object (members_of l)) (properties_at (value_at d)) props_word PropsGood props (list_of_members ms) rest good
       ∙ ap (λ l. Some (object l, rest)) (members_listed ms)
   value_again (map_object ps) rest f =
       let parts = three (pair_values ps) (is_within_limit (list_of_pairs ps)) (are_once (map (λ p. p.0) (list_of_pairs ps))) f.formed in
-      let each = pairs_each d ps (record { formed = parts.0; plain = f.plain; depth = omega (arith, f.depth); unicode = f.unicode }) in
+      let each = pairs_each d ps (record { formed = parts.0; plain = f.plain; depth = omega (arith, f.depth) }) in
       ap (λ w. mapped_at (λ l. map_object (pairs_of l)) (map_at (value_at d)) (w ++ rest)) (pairs_same ps)
       ∙ remade (λ l. map_object (pairs_of l)) (map_at (value_at d)) pairs_word (λ l. PairsGood l × (are_once (map (λ p. p.0) l) ≡ true)) maps (list_of_pairs ps) rest ((limit_within (list_of_pairs ps) parts.1, each), parts.2)
       ∙ ap (λ l. Some (map_object l, rest)) (pairs_listed ps)
   value_again (set_object ts) rest f =
       let parts = three (are_values ts) (is_within_limit (list_of_trees ts)) (are_once (list_of_trees ts)) f.formed in
-      let each = items_each d ts (record { formed = parts.0; plain = f.plain; depth = omega (arith, f.depth); unicode = f.unicode }) in
+      let each = items_each d ts (record { formed = parts.0; plain = f.plain; depth = omega (arith, f.depth) }) in
       ap (λ w. mapped_at (λ l. set_object (trees_of l)) (set_at (value_at d)) (w ++ rest)) (items_same ts)
       ∙ remade (λ l. set_object (trees_of l)) (set_at (value_at d)) items_word (λ l. ItemsGood l × (are_once l ≡ true)) sets (list_of_trees ts) rest ((limit_within (list_of_trees ts) parts.1, each), parts.2)
       ∙ ap (λ l. Some (set_object l, rest)) (trees_listed ts)
@@ -240,33 +237,10 @@ unfolding value_at
 value zero = record { sound = λ bs x fits e. absurd cc; again = λ t rest f. absurd (none_so_shallow t f.depth) }
 value (suc d) = record { sound = value_sound d (value d); again = value_again d (value d) }
 
--- ---- in the words of the grammar
-pub fit_from : (word : List ℕ) (t : Tree) → SpellsValue word t → Fits 100 t
-fit_from word t s = record { formed = s.well_formed; plain = s.cloneable.0; depth = s.cloneable.1; unicode = s.unicode }
-
-pub spells_from : (word : List ℕ) (t : Tree) → word ≡ spelling_of t → Fits 100 t → SpellsValue word t
-spells_from word t e f = record { spelled = e; well_formed = f.formed; cloneable = (f.plain, f.depth); unicode = f.unicode }
-
--- what was read stands at its place, and what is left is no longer than the whole
-pub record Stood (bs rest : List ℕ) (from : ℕ) (t : Tree) : Type 0 where
-  pub shorter : length rest ≤ length bs
-  pub there : ValueStands bs from (length bs - length rest) t
-
-pub value_stands : (bs after : List ℕ) (from : ℕ) (t : Tree) (rest : List ℕ) → after ≡ drop from bs → from ≤ length bs → IsBytes bs → value_at 100 after ≡ Some (t, rest) → Stood bs rest from t
-value_stands bs after from t rest is le fits e =
-    let got = stands (value_at 100) spelling_of (Fits 100) (value 100) bs from t rest le fits (ap (value_at 100) (sym is) ∙ e) in
-    record { shorter = got.0; there = record { starts = got.1; ends = omega arith; spells = spells_from _ t got.2 got.3 } }
-
-pub value_refused : (bs after : List ℕ) (from : ℕ) (e : ReadError) → after ≡ drop from bs → Fails e (value_at 100 after) → e ≡ error.NotInGrammar → (t : Tree) (end : ℕ) → ¬ (ValueStands bs from end t)
-value_refused bs after from error.NoMemory is h same = absurd cc
-value_refused bs after from error.NotInGrammar is h same = λ t end s. none_stands (value_at 100) spelling_of (Fits 100) (value 100) bs from end t (ap (value_at 100) (sym is) ∙ h) s.spells.spelled (fit_from _ t s.spells)
-
-pub values_apart : (a b x y : List ℕ) (s t : Tree) → SpellsValue a s → SpellsValue b t → a ++ x ≡ b ++ y → (s ≡ t) × (x ≡ y)
-values_apart a b x y s t p q e =
-    apart (value_at 100) spelling_of (Fits 100) (value 100) s t x y (fit_from a s p) (fit_from b t q) (ap (λ w. w ++ x) (sym p.spelled) ∙ e ∙ ap (λ w. w ++ y) q.spelled)
-
-pub value_prefix : (a b rest : List ℕ) (s t : Tree) → SpellsValue a s → SpellsValue b t → b ≡ a ++ rest → rest ≡ []
-value_prefix a b rest s t p q e = (values_apart a b rest [] s t p q (sym e ∙ sym (append-nil b))).1
-
-pub one_value : (a : List ℕ) (s t : Tree) → SpellsValue a s → SpellsValue a t → s ≡ t
-one_value a s t p q = (values_apart a a [] [] s t p q refl).0
+pub value_grammar : Grammar (value_at 100) spelling_of (Fits 100) SpellsValue
+value_grammar = record {
+  format = value 100;
+  spelled = λ word t s. s.spelled;
+  fits = λ word t s. record { formed = s.well_formed; plain = s.cloneable.0; depth = s.cloneable.1 };
+  spells = λ word t e f. record { spelled = e; well_formed = f.formed; cloneable = (f.plain, f.depth) };
+}

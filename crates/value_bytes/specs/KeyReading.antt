@@ -6,7 +6,7 @@ use Rattle.clone_values.specs.KeyTree.{KeyTree, number, date, text, binary, arra
 use Rattle.clone_values.specs.WellFormed.{is_int, is_date}
 use Rattle.value_bytes.specs.declared.kinds.KeyKind.{KeyKind}
 use Rattle.value_bytes.specs.declared.kinds.KeyKind.TheVariants as kind
-use Rattle.value_bytes.specs.Steps.{◌>>=◌, byte_at, number_at, string_at, text_at, mapped_at, checked_at, counted_at}
+use Rattle.value_bytes.specs.Steps.{◌>>=◌, byte_at, whole_number_at, string_at, text_at, mapped_at, checked_at, counted_at}
 
 -- the kind of key that a byte stands for
 abbrev pub key_kind_of : ℕ → Option KeyKind
@@ -19,8 +19,8 @@ key_kind_of b =
     else None
 
 abbrev pub key_body_at : (List ℕ → Option (KeyTree × List ℕ)) → KeyKind → List ℕ → Option (KeyTree × List ℕ)
-key_body_at r kind.Number bs = mapped_at number (checked_at is_int number_at) bs
-key_body_at r kind.Date bs = mapped_at date (checked_at is_date number_at) bs
+key_body_at r kind.Number bs = mapped_at number (checked_at is_int whole_number_at) bs
+key_body_at r kind.Date bs = mapped_at date (checked_at is_date whole_number_at) bs
 key_body_at r kind.Text bs = mapped_at text text_at bs
 key_body_at r kind.Binary bs = mapped_at binary string_at bs
 key_body_at r kind.Array bs = mapped_at (λ ks. array (key_trees_of ks)) (counted_at r) bs

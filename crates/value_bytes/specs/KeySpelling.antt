@@ -1,11 +1,13 @@
--- The bytes of keys (Indexed Database API 3.0, 2.4, for the kinds). Numbers stand with their highest byte first.
+-- The bytes of keys (Indexed Database API 3.0, "Keys", for the kinds). Numbers stand with their highest byte first.
 --     key_spelling_of       the bytes of a key
+--     keys_field            the bytes of a list of keys: a count, and the keys
 --     SpellsKey             the grammar: these bytes, of such a key
 --     KeyStands             a spelling stands in longer bytes
-use Rattle.std.specs.Prelude.{◌≡◌, ℕ, ◌≤◌, List, ◌∷◌, [], ◌++◌, length, slice_range}
-use Rattle.std.specs.Str.{IsUtf8}
+use Rattle.std.specs.Prelude.{◌≡◌, ℕ, ◌≤◌, List, ◌∷◌, [], ◌++◌, length}
 use Rattle.clone_values.specs.KeyTree.{KeyTree, KeyTrees, number, date, text, binary, array, no_keys, key_more, list_of_keys}
+use Rattle.idb_base.specs.declared.limits.TheConstants.{GREATEST_DEPTH}
 use Rattle.clone_values.specs.KeyValues.{IsKey, key_depth}
+use Rattle.value_bytes.specs.Places.{StandsSpelled}
 use Rattle.value_bytes.specs.Spelling.{count_bytes, number_bytes, string_bytes}
 
 -- the bytes of a key: its kind, and what it holds
@@ -22,26 +24,16 @@ abbrev mutual
   keys_spelling no_keys = []
   keys_spelling (key_more k ks) = key_spelling_of k ++ keys_spelling ks
 
--- each string in the key is Unicode text
-abbrev mutual
-  pub KeyIsUnicode : KeyTree → Type 0
-  KeyIsUnicode (text s) = IsUtf8 s
-  KeyIsUnicode (array ks) = KeysAreUnicode ks
-  KeyIsUnicode _ = Unit {0}
+-- the bytes of a list as part of a key: how many keys it has, and each of them
+abbrev pub keys_field : KeyTrees → List ℕ
+keys_field ks = count_bytes (length (list_of_keys ks)) ++ keys_spelling ks
 
-  pub KeysAreUnicode : KeyTrees → Type 0
-  KeysAreUnicode no_keys = Unit {0}
-  KeysAreUnicode (key_more k ks) = KeyIsUnicode k × KeysAreUnicode ks
-
--- the grammar of keys: the bytes of a key that keeps to the ranges and sizes, has Unicode strings and is at most 100 deep
+-- the grammar of keys: the bytes of a well formed key that is at most 100 deep
 pub record SpellsKey (word : List ℕ) (k : KeyTree) : Type 0 where
   pub spelled : word ≡ key_spelling_of k
   pub well_formed : IsKey k
-  pub depth : key_depth k ≤ 100
-  pub unicode : KeyIsUnicode k
+  pub depth : key_depth k ≤ GREATEST_DEPTH
 
--- from place `from` up to place `end` the bytes are a spelling of the key
-pub record KeyStands (bytes : List ℕ) (from end : ℕ) (k : KeyTree) : Type 0 where
-  pub starts : from ≤ end
-  pub ends : end ≤ length bytes
-  pub spells : SpellsKey (slice_range bytes from end) k
+-- from a place up to another the bytes are a spelling of the key
+abbrev pub KeyStands : List ℕ → ℕ → ℕ → KeyTree → Type 0
+KeyStands = StandsSpelled SpellsKey

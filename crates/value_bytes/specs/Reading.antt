@@ -8,7 +8,7 @@ use Rattle.clone_values.specs.Names.{names_of, is_rising}
 use Rattle.clone_values.specs.WellFormed.{is_int, is_date, are_once, is_array_name}
 use Rattle.value_bytes.specs.declared.kinds.Kind.{Kind}
 use Rattle.value_bytes.specs.declared.kinds.Kind.TheVariants as kind
-use Rattle.value_bytes.specs.Steps.{◌>>=◌, byte_at, number_at, string_at, text_at, mapped_at, checked_at, pair_at, counted_at}
+use Rattle.value_bytes.specs.Steps.{◌>>=◌, byte_at, whole_number_at, string_at, text_at, mapped_at, checked_at, pair_at, counted_at}
 
 -- the kind that a byte stands for
 abbrev pub kind_of : ℕ → Option Kind
@@ -46,9 +46,9 @@ body_at r kind.Undefined bs = Some (undefined, bs)
 body_at r kind.Null bs = Some (null, bs)
 body_at r kind.False bs = Some (boolean false, bs)
 body_at r kind.True bs = Some (boolean true, bs)
-body_at r kind.Int bs = mapped_at int (checked_at is_int number_at) bs
+body_at r kind.Int bs = mapped_at int (checked_at is_int whole_number_at) bs
 body_at r kind.Text bs = mapped_at text text_at bs
-body_at r kind.Date bs = mapped_at date (checked_at is_date number_at) bs
+body_at r kind.Date bs = mapped_at date (checked_at is_date whole_number_at) bs
 body_at r kind.Bytes bs = mapped_at bytes string_at bs
 body_at r kind.Array bs = mapped_at (λ x. array (trees_of x.0) (members_of x.1)) (array_at r) bs
 body_at r kind.Object bs = mapped_at (λ ms. object (members_of ms)) (properties_at r) bs

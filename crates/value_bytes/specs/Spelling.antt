@@ -1,13 +1,15 @@
 -- The bytes of values. Numbers stand with their highest byte first.
+--     count_bytes, number_bytes, word_bytes, string_bytes      the fields
 --     spelling_of           the bytes of a value
+--     items_field, members_field, pairs_field      the bytes of a list: a count, and the members
 --     SpellsValue           the grammar: these bytes, of a value that can be cloned
 --     ValueStands           a spelling stands in longer bytes
-use Rattle.std.specs.Prelude.{◌≡◌, ℕ, ◌≤◌, Bool, true, false, ℤ, List, [], ◌∷◌, ◌++◌, length, slice_range}
+use Rattle.std.specs.Prelude.{◌≡◌, ℕ, Bool, true, false, ℤ, List, [], ◌∷◌, ◌++◌, length}
 use Rattle.std.specs.Int.{w32, w64, to_be_bytes, cast_unsigned}
-use Rattle.std.specs.Str.{IsUtf8}
 use Rattle.clone_values.specs.Tree.{Tree, Trees, Members, PairTrees, undefined, null, boolean, int, text, date, bytes, array, object, map_object, set_object, function, no_trees, tree_more, no_members, member_more, no_pairs, pair_more, list_of_trees, list_of_members, list_of_pairs}
 use Rattle.clone_values.specs.WellFormed.{IsValue}
 use Rattle.clone_values.specs.Values.{IsCloneable}
+use Rattle.value_bytes.specs.Places.{StandsSpelled}
 
 -- a count or a length: four bytes
 abbrev pub count_bytes : ℕ → List ℕ
@@ -16,6 +18,10 @@ count_bytes n = to_be_bytes w32 n
 -- a number: eight bytes, in two's complement
 abbrev pub number_bytes : ℤ → List ℕ
 number_bytes z = to_be_bytes w64 (cast_unsigned w64 z)
+
+-- a natural number of a log's record: eight bytes
+abbrev pub word_bytes : ℕ → List ℕ
+word_bytes n = to_be_bytes w64 n
 
 -- a text or a byte string: its length and its bytes
 abbrev pub string_bytes : List ℕ → List ℕ
@@ -56,37 +62,22 @@ abbrev mutual
   pairs_spelling no_pairs = []
   pairs_spelling (pair_more s t ps) = (spelling_of s ++ spelling_of t) ++ pairs_spelling ps
 
--- each text and each name in the value is Unicode text
-abbrev mutual
-  pub IsUnicode : Tree → Type 0
-  IsUnicode (text s) = IsUtf8 s
-  IsUnicode (array ts ms) = ItemsAreUnicode ts × MembersAreUnicode ms
-  IsUnicode (object ms) = MembersAreUnicode ms
-  IsUnicode (map_object ps) = PairsAreUnicode ps
-  IsUnicode (set_object ts) = ItemsAreUnicode ts
-  IsUnicode _ = Unit {0}
+-- the bytes of a list as part of a value: how many members it has, and each of them
+abbrev pub items_field : Trees → List ℕ
+items_field ts = count_bytes (length (list_of_trees ts)) ++ items_spelling ts
 
-  pub ItemsAreUnicode : Trees → Type 0
-  ItemsAreUnicode no_trees = Unit {0}
-  ItemsAreUnicode (tree_more t ts) = IsUnicode t × ItemsAreUnicode ts
+abbrev pub members_field : Members → List ℕ
+members_field ms = count_bytes (length (list_of_members ms)) ++ members_spelling ms
 
-  pub MembersAreUnicode : Members → Type 0
-  MembersAreUnicode no_members = Unit {0}
-  MembersAreUnicode (member_more n t ms) = IsUtf8 n × IsUnicode t × MembersAreUnicode ms
+abbrev pub pairs_field : PairTrees → List ℕ
+pairs_field ps = count_bytes (length (list_of_pairs ps)) ++ pairs_spelling ps
 
-  pub PairsAreUnicode : PairTrees → Type 0
-  PairsAreUnicode no_pairs = Unit {0}
-  PairsAreUnicode (pair_more s t ps) = IsUnicode s × IsUnicode t × PairsAreUnicode ps
-
--- the grammar of values: the bytes of a well formed value of Unicode texts that holds no Function and is at most 100 deep
+-- the grammar of values: the bytes of a well formed value that can be cloned, so holds no Function and is at most 100 deep
 pub record SpellsValue (word : List ℕ) (t : Tree) : Type 0 where
   pub spelled : word ≡ spelling_of t
   pub well_formed : IsValue t
   pub cloneable : IsCloneable t
-  pub unicode : IsUnicode t
 
--- from place `from` up to place `end` the bytes are a spelling of the value
-pub record ValueStands (bytes : List ℕ) (from end : ℕ) (t : Tree) : Type 0 where
-  pub starts : from ≤ end
-  pub ends : end ≤ length bytes
-  pub spells : SpellsValue (slice_range bytes from end) t
+-- from a place up to another the bytes are a spelling of the value
+abbrev pub ValueStands : List ℕ → ℕ → ℕ → Tree → Type 0
+ValueStands = StandsSpelled SpellsValue

@@ -1,23 +1,22 @@
 -- Reading from the front of a list of bytes: what stands there, and the bytes behind it; None where nothing does.
---     Gives                 what a function of the code returned is what reading gives
---     byte_at, front_at, count_at, number_at, string_at, text_at      the fields
+--     IsUnspelled           what an error says of reading
+--     byte_at, front_at, count_at, whole_number_at, word_at, string_at, text_at      the fields
 --     mapped_at, checked_at, pair_at, many_at, counted_at             readers made of readers
-use Rattle.std.specs.Prelude.{◌≡◌, ℕ, zero, suc, Bool, ℤ, List, [], ◌∷◌, length, take, drop, Option, Some, None, Result, Ok, Err, nat_lt, if◌then◌else◌}
+use Rattle.std.specs.Prelude.{◌≡◌, ℕ, zero, suc, Bool, ℤ, List, [], ◌∷◌, length, take, drop, Option, Some, None, nat_lt, if◌then◌else◌}
 use Rattle.std.specs.Int.{w32, w64, from_be_bytes, cast_signed}
 use Rattle.std.specs.Str.{is_utf8}
-use Rattle.value_bytes.specs.declared.fields.ReadError.{ReadError}
-use Rattle.value_bytes.specs.declared.fields.ReadError.TheVariants as error
+use Rattle.value_bytes.specs.declared.error.SpellingError.{SpellingError}
+use Rattle.value_bytes.specs.declared.error.SpellingError.TheVariants as error
 
 infixl 10 ◌>>=◌
 abbrev pub ◌>>=◌ : {A B : Type 0} → Option A → (A → Option B) → Option B
 None >>= f = None
 (Some x) >>= f = f x
 
--- What a function returned, seen by view, is what reading gives, unless memory ran out.
-abbrev pub Gives : {X Y : Type 0} → (X → Y) → Result X ReadError → Option Y → Type 0
-Gives view (Ok x) read = read ≡ Some (view x)
-Gives view (Err error.NotInGrammar) read = read ≡ None
-Gives view (Err error.NoMemory) read = Unit {0}
+-- What an error says of reading: that it gives nothing, or for want of memory nothing at all.
+abbrev pub IsUnspelled : {Y : Type 0} → SpellingError → Option Y → Type 0
+IsUnspelled error.NotInGrammar read = read ≡ None
+IsUnspelled error.NoMemory read = Unit {0}
 
 abbrev pub byte_at : List ℕ → Option (ℕ × List ℕ)
 byte_at [] = None
@@ -30,8 +29,11 @@ front_at n bs = if nat_lt (length bs) n then None else Some (take n bs, drop n b
 abbrev pub count_at : List ℕ → Option (ℕ × List ℕ)
 count_at bs = front_at 4 bs >>= λ x. Some (from_be_bytes w32 x.0, x.1)
 
-abbrev pub number_at : List ℕ → Option (ℤ × List ℕ)
-number_at bs = front_at 8 bs >>= λ x. Some (cast_signed w64 (from_be_bytes w64 x.0), x.1)
+abbrev pub whole_number_at : List ℕ → Option (ℤ × List ℕ)
+whole_number_at bs = front_at 8 bs >>= λ x. Some (cast_signed w64 (from_be_bytes w64 x.0), x.1)
+
+abbrev pub word_at : List ℕ → Option (ℕ × List ℕ)
+word_at bs = front_at 8 bs >>= λ x. Some (from_be_bytes w64 x.0, x.1)
 
 -- what is read, made into something else
 abbrev pub mapped_at : {A B : Type 0} → (A → B) → (List ℕ → Option (A × List ℕ)) → List ℕ → Option (B × List ℕ)

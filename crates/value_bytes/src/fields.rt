@@ -1,46 +1,22 @@
-// The fields that spellings are made of, read from the front of the bytes that are left.
+// The fields that spellings are made of, read from the front of the bytes that are left, which then begin behind them.
 ghost use Rattle.std.specs.Prelude.{◌≡◌, length, IfOk};
-ghost use Rattle.clone_values.specs.Limits.{IsWithinLimit};
+ghost use Rattle.idb_base.specs.Lists.{IsWithinLimit};
+ghost use Rattle.idb_base.specs.Results.{Gives};
 ghost use Rattle.clone_values.specs.WellFormed.{is_int, is_date};
-ghost use Rattle.value_bytes.specs.Steps.{Gives, byte_at, count_at, number_at, front_at, string_at, text_at, checked_at};
+ghost use Rattle.value_bytes.specs.Steps.{IsUnspelled, byte_at, count_at, whole_number_at, word_at, front_at, string_at, text_at, checked_at};
 
-use clone_values::{Bytes, NoMemory, Text};
-use std::alloc::{AllocFailed, Global};
+use crate::SpellingError;
+use clone_values::{Bytes, Text, is_date, is_int};
+use idb_base::NoMemory;
+use std::alloc::Global;
 
-/// Why nothing was read.
-#[derive(Clone, Copy, Debug, PartialEq, Eq)]
-pub enum ReadError {
-    /// No spelling stands there.
-    NotInGrammar,
-    NoMemory,
-}
-
-impl From<NoMemory> for ReadError {
-    ghost use Rattle.value_bytes.specs.declared.fields.ReadError.TheVariants as error;
-
-    ghost from_gives = { λ _ e. e ≡ error.NoMemory };
-
-    fn from(_e: NoMemory) -> ReadError {
-        ReadError::NoMemory
-    }
-}
-
-impl<T: Drop> From<AllocFailed<T>> for ReadError {
-    ghost use Rattle.value_bytes.specs.declared.fields.ReadError.TheVariants as error;
-
-    ghost from_gives = { λ _ e. e ≡ error.NoMemory };
-
-    fn from(_e: AllocFailed<T>) -> ReadError {
-        ReadError::NoMemory
-    }
-}
-
-pub(crate) fn byte_from(rest: &mut &[u8]) -> Result<u8, ReadError>
-    ensures { Gives (λ b. (b, rest.new.now)) result (byte_at rest.old.now) }
+/// One byte.
+pub fn byte_from(rest: &mut &[u8]) -> Result<u8, SpellingError>
+    ensures { Gives IsUnspelled (λ b. (b, rest.new.now)) result (byte_at rest.old.now) }
 {
     let all = *rest;
     match all {
-        [] => Err(ReadError::NotInGrammar),
+        [] => Err(SpellingError::NotInGrammar),
         [first, behind @ ..] => {
             *rest = behind;
             Ok(*first)
@@ -48,84 +24,101 @@ pub(crate) fn byte_from(rest: &mut &[u8]) -> Result<u8, ReadError>
     }
 }
 
-fn front_from<'a>(rest: &mut &'a [u8], count: usize) -> Result<&'a [u8], ReadError>
-    ensures front { Gives (λ f. (f.now, rest.new.now)) result (front_at count rest.old.now) }
+/// So many bytes.
+pub fn front_from<'a>(rest: &mut &'a [u8], count: usize) -> Result<&'a [u8], SpellingError>
+    ensures front { Gives IsUnspelled (λ f. (f.now, rest.new.now)) result (front_at count rest.old.now) }
     ensures count { IfOk result (λ f. length f.now ≡ count) }
 {
     let all = *rest;
     if all.len() < count {
-        return Err(ReadError::NotInGrammar);
+        return Err(SpellingError::NotInGrammar);
     }
     let (front, behind) = all.split_at(count);
     *rest = behind;
     Ok(front)
 }
 
-pub(crate) fn count_from(rest: &mut &[u8]) -> Result<u32, ReadError>
-    ensures { Gives (λ n. (n, rest.new.now)) result (count_at rest.old.now) }
+/// A count or a length: four bytes, the highest first.
+pub fn count_from(rest: &mut &[u8]) -> Result<u32, SpellingError>
+    ensures { Gives IsUnspelled (λ n. (n, rest.new.now)) result (count_at rest.old.now) }
 {
     let b = front_from(rest, 4)?;
     Ok(u32::from_be_bytes([b[0], b[1], b[2], b[3]]))
 }
 
-fn number_from(rest: &mut &[u8]) -> Result<i64, ReadError>
-    ensures { Gives (λ n. (n, rest.new.now)) result (number_at rest.old.now) }
+/// A whole number: eight bytes in two's complement, the highest first.
+pub fn number_from(rest: &mut &[u8]) -> Result<i64, SpellingError>
+    ensures { Gives IsUnspelled (λ n. (n, rest.new.now)) result (whole_number_at rest.old.now) }
 {
     let b = front_from(rest, 8)?;
     Ok(i64::from_be_bytes([b[0], b[1], b[2], b[3], b[4], b[5], b[6], b[7]]))
 }
 
-/// An Int, or the number of a key.
-pub(crate) fn int_from(rest: &mut &[u8]) -> Result<i64, ReadError>
-    ensures { Gives (λ n. (n, rest.new.now)) result (checked_at is_int number_at rest.old.now) }
+/// A natural number: eight bytes, the highest first.
+pub fn word_from(rest: &mut &[u8]) -> Result<u64, SpellingError>
+    ensures { Gives IsUnspelled (λ n. (n, rest.new.now)) result (word_at rest.old.now) }
+{
+    let b = front_from(rest, 8)?;
+    Ok(u64::from_be_bytes([b[0], b[1], b[2], b[3], b[4], b[5], b[6], b[7]]))
+}
+
+/// A number of a value or a key, at most 2^53 and at least -2^53.
+pub fn int_from(rest: &mut &[u8]) -> Result<i64, SpellingError>
+    ensures { Gives IsUnspelled
+        (λ n. (n, rest.new.now)) result (checked_at is_int whole_number_at rest.old.now) }
 {
     let n = number_from(rest)?;
-    if (-9_007_199_254_740_992..=9_007_199_254_740_992).contains(&n) {
+    if is_int(n) {
         Ok(n)
     } else {
-        Err(ReadError::NotInGrammar)
+        Err(SpellingError::NotInGrammar)
     }
 }
 
-/// Milliseconds of a date.
-pub(crate) fn date_from(rest: &mut &[u8]) -> Result<i64, ReadError>
-    ensures { Gives (λ n. (n, rest.new.now)) result (checked_at is_date number_at rest.old.now) }
+/// The milliseconds of a date of a value or a key.
+pub fn date_from(rest: &mut &[u8]) -> Result<i64, SpellingError>
+    ensures { Gives IsUnspelled
+        (λ n. (n, rest.new.now)) result (checked_at is_date whole_number_at rest.old.now) }
 {
     let n = number_from(rest)?;
-    if (-8_640_000_000_000_000..=8_640_000_000_000_000).contains(&n) {
+    if is_date(n) {
         Ok(n)
     } else {
-        Err(ReadError::NotInGrammar)
+        Err(SpellingError::NotInGrammar)
     }
 }
 
-fn string_from<'a>(rest: &mut &'a [u8]) -> Result<&'a [u8], ReadError>
-    ensures string { Gives (λ s. (s.now, rest.new.now)) result (string_at rest.old.now) }
+/// The bytes of a text or a byte string, behind their length.
+pub fn string_from<'a>(rest: &mut &'a [u8]) -> Result<&'a [u8], SpellingError>
+    ensures string { Gives IsUnspelled (λ s. (s.now, rest.new.now)) result (string_at rest.old.now) }
     ensures limit { IfOk result (λ s. IsWithinLimit s.now) }
 {
     let count = count_from(rest)?;
     front_from(rest, count as usize)
 }
 
-pub(crate) fn text_from(alloc: Global, rest: &mut &[u8]) -> Result<Text, ReadError>
-    ensures { Gives (λ t. (t, rest.new.now)) result (text_at rest.old.now) }
+/// A text, behind its length; its bytes are UTF-8.
+pub fn text_from(alloc: Global, rest: &mut &[u8]) -> Result<Text, SpellingError>
+    ensures { Gives IsUnspelled (λ t. (t, rest.new.now)) result (text_at rest.old.now) }
 {
     let bytes = string_from(rest)?;
     match str::from_utf8(bytes) {
         Ok(text) => Ok(Text::copy_of(alloc, text)?),
-        Err(_) => Err(ReadError::NotInGrammar),
+        Err(_) => Err(SpellingError::NotInGrammar),
     }
 }
 
-pub(crate) fn bytes_from(alloc: Global, rest: &mut &[u8]) -> Result<Bytes, ReadError>
-    ensures { Gives (λ b. (b, rest.new.now)) result (string_at rest.old.now) }
+/// A byte string, behind its length.
+pub fn bytes_from(alloc: Global, rest: &mut &[u8]) -> Result<Bytes, SpellingError>
+    ensures { Gives IsUnspelled (λ b. (b, rest.new.now)) result (string_at rest.old.now) }
 {
     let bytes = string_from(rest)?;
     Ok(bytes_of(alloc, bytes)?)
 }
 
 fn bytes_of(alloc: Global, bytes: &[u8]) -> Result<Bytes, NoMemory>
+    requires { IsWithinLimit bytes.now }
     ensures { IfOk result (λ b. b ≡ bytes.now) }
 {
-    Ok(Bytes::from_vec(Vec::from_slice(alloc, bytes)?))
+    Bytes::from_vec(alloc, Vec::from_slice(alloc, bytes)?)
 }

@@ -1,20 +1,20 @@
 // Keys, written as their bytes.
-ghost use Rattle.std.specs.Prelude.{◌≡◌, ◌≤◌, ◌++◌, true, length, OnOk, OnErr};
-ghost use Rattle.clone_values.specs.Limits.{IsWithinLimit};
+ghost use Rattle.std.specs.Prelude.{◌≡◌, ◌≤◌, ◌++◌, OnOk, OnErr};
+ghost use Rattle.idb_base.specs.declared.limits.TheConstants.{GREATEST_DEPTH};
 ghost use Rattle.clone_values.specs.KeyTree.{key_trees_of};
+ghost use Rattle.clone_values.specs.KeyValues.{IsKey, key_depth};
 ghost use Rattle.clone_values.specs.View.{key_tree_of};
-ghost use Rattle.value_bytes.specs.Spelling.{count_bytes};
-ghost use Rattle.value_bytes.specs.KeySpelling.{SpellsKey, KeyIsUnicode, KeysAreUnicode, key_spelling_of, keys_spelling};
-ghost use Rattle.clone_values.specs.KeyValues.{IsKey, is_key, are_keys, key_depth};
+ghost use Rattle.value_bytes.specs.KeySpelling.{SpellsKey, key_spelling_of, keys_field};
 ghost use Rattle.value_bytes.specs.Writing.{BeginsWith};
 
 use crate::put_fields::{put_byte, put_count, put_number, put_string};
-use clone_values::{Key, Keys, NoMemory};
+use clone_values::{Key, Keys};
+use idb_base::NoMemory;
 
 /// Puts the spelling of the key at the end.
 pub fn write_key(out: &mut Vec<u8>, key: &Key) -> Result<(), NoMemory>
     requires well_formed { IsKey (key_tree_of key.now) }
-    requires depth { key_depth (key_tree_of key.now) ≤ 100 }
+    requires depth { key_depth (key_tree_of key.now) ≤ GREATEST_DEPTH }
     ensures written { OnOk result (out.new.items ≡ out.old.items ++ key_spelling_of (key_tree_of key.now)) }
     ensures spelled { OnOk result (SpellsKey (key_spelling_of (key_tree_of key.now)) (key_tree_of key.now)) }
     ensures unchanged { OnErr result (out.new.items ≡ out.old.items) }
@@ -32,9 +32,7 @@ pub fn write_key(out: &mut Vec<u8>, key: &Key) -> Result<(), NoMemory>
 #[cycle(put)]
 #[tactic(auto, using(clone_values::specs::Falls::smaller_key, crate::proofs::Puts::begins_more))]
 fn put_key(out: &mut Vec<u8>, key: &Key) -> Result<(), NoMemory>
-    requires { is_key (key_tree_of key.now) ≡ true }
     ensures written { OnOk result (out.new.items ≡ out.old.items ++ key_spelling_of (key_tree_of key.now)) }
-    ensures unicode { OnOk result (KeyIsUnicode (key_tree_of key.now)) }
     ensures front { OnErr result (BeginsWith out.old.items out.new.items) }
 {
     match key {
@@ -62,12 +60,9 @@ fn put_key(out: &mut Vec<u8>, key: &Key) -> Result<(), NoMemory>
 }
 
 #[cycle(put)]
-#[tactic(auto, using(clone_values::specs::Falls::smaller_key, crate::proofs::Puts::begins_more))]
+#[tactic(auto, using(clone_values::specs::Falls::smaller_key, crate::proofs::Puts::begins_more, crate::proofs::Puts::begins_then))]
 fn put_keys(out: &mut Vec<u8>, keys: &Keys) -> Result<(), NoMemory>
-    requires formed { are_keys (key_trees_of keys.now) ≡ true }
-    requires limit { IsWithinLimit keys.now }
-    ensures written { OnOk result (out.new.items ≡ out.old.items ++ (count_bytes (length keys.now) ++ keys_spelling (key_trees_of keys.now))) }
-    ensures unicode { OnOk result (KeysAreUnicode (key_trees_of keys.now)) }
+    ensures written { OnOk result (out.new.items ≡ out.old.items ++ keys_field (key_trees_of keys.now)) }
     ensures front { OnErr result (BeginsWith out.old.items out.new.items) }
 {
     put_count(out, keys.len())?;

@@ -3,9 +3,9 @@ ghost use Rattle.std.specs.Prelude.{◌≡◌, map};
 ghost use Rattle.std.specs.List.{list_all};
 ghost use Rattle.clone_values.specs.Names.{is_rising, names_of};
 ghost use Rattle.clone_values.specs.View.{prop_of};
-ghost use Rattle.clone_values.specs.WellFormed.{is_array_name, are_digits};
+ghost use Rattle.clone_values.specs.WellFormed.{is_array_name};
 
-use clone_values::{Prop, Props};
+use clone_values::{Prop, Props, is_array_name};
 use std::cmp::Ordering;
 
 /// Whether each name is greater than the one before, by bytes.
@@ -37,21 +37,4 @@ pub(crate) fn are_array_names(props: &Props) -> bool
         }
     }
     true
-}
-
-fn is_array_name(name: &str) -> bool
-    ensures { result ≡ is_array_name name.now }
-{
-    name != "length" && !are_digits(name.as_bytes())
-}
-
-fn are_digits(name: &[u8]) -> bool
-    ensures { result ≡ are_digits name.now }
-{
-    for b in name {
-        if *b < b'0' || *b > b'9' {
-            return false;
-        }
-    }
-    !name.is_empty()
 }

@@ -7,7 +7,7 @@ use std::process::Abort;
 use std::test::Fail;
 
 fn text(alloc: Global, s: &str) -> Result<Text, Fail> {
-    Ok(Text::from_string(String::from_str(alloc, s)?))
+    Ok(Text::copy_of(alloc, s)?)
 }
 
 fn one_item(alloc: Global, item: Value) -> Result<Items, Fail> {
@@ -39,7 +39,7 @@ fn spelled(rt: &impl Abort, alloc: Global, value: &Value, bytes: &[u8]) -> Resul
         assert!(rt;
             matches!(
                 read_value(alloc, &bytes[..len], 0),
-                Err(ReadError::NotInGrammar)
+                Err(SpellingError::NotInGrammar)
             )
         );
     }
@@ -123,7 +123,7 @@ fn refused_values(rt: HostRuntime) -> Result<(), Fail> {
         assert!(rt;
             matches!(
                 read_value(rt.alloc(), bytes, 0),
-                Err(ReadError::NotInGrammar)
+                Err(SpellingError::NotInGrammar)
             )
         );
     }
@@ -150,7 +150,7 @@ fn depth_is_bounded(rt: HostRuntime) -> Result<(), Fail> {
     assert!(rt;
         matches!(
             read_value(rt.alloc(), deeper.as_slice(), 0),
-            Err(ReadError::NotInGrammar)
+            Err(SpellingError::NotInGrammar)
         )
     );
     assert_eq!(rt; read_value(rt.alloc(), deeper.as_slice(), 5)?.1, 905);
@@ -165,16 +165,21 @@ fn places(rt: HostRuntime) -> Result<(), Fail> {
     assert!(rt;
         matches!(
             read_value(rt.alloc(), bytes, 3),
-            Err(ReadError::NotInGrammar)
+            Err(SpellingError::NotInGrammar)
         )
     );
     assert!(rt;
         matches!(
             read_value(rt.alloc(), bytes, 4),
-            Err(ReadError::NotInGrammar)
+            Err(SpellingError::NotInGrammar)
         )
     );
-    assert!(rt; matches!(read_key(rt.alloc(), bytes, 4), Err(ReadError::NotInGrammar)));
+    assert!(rt;
+        matches!(
+            read_key(rt.alloc(), bytes, 4),
+            Err(SpellingError::NotInGrammar)
+        )
+    );
     assert_eq!(rt; value_size(&Value::Function), 1);
     Ok(())
 }
@@ -220,7 +225,94 @@ fn refused_keys(rt: HostRuntime) -> Result<(), Fail> {
         b"\x25\xff\xff\xff\xff\x25\0\0\0\0",
     ];
     for bytes in refused {
-        assert!(rt; matches!(read_key(rt.alloc(), bytes, 0), Err(ReadError::NotInGrammar)));
+        assert!(rt;
+            matches!(
+                read_key(rt.alloc(), bytes, 0),
+                Err(SpellingError::NotInGrammar)
+            )
+        );
     }
+    Ok(())
+}
+
+#[derive(Clone, Copy)]
+enum Field {
+    Byte,
+    Count,
+    Word,
+    Number,
+    Text,
+    Bytes,
+    Int,
+    Date,
+    Value,
+    Key,
+}
+
+const FIELDS: [Field; 10] = [
+    Field::Byte,
+    Field::Count,
+    Field::Word,
+    Field::Number,
+    Field::Text,
+    Field::Bytes,
+    Field::Int,
+    Field::Date,
+    Field::Value,
+    Field::Key,
+];
+
+fn put_one(alloc: Global, out: &mut Vec<u8>, field: Field) -> Result<(), Fail> {
+    match field {
+        Field::Byte => put_byte(out, 0x37)?,
+        Field::Count => put_count(out, 258)?,
+        Field::Word => put_word(out, 1 << 40)?,
+        Field::Number => put_number(out, -2)?,
+        Field::Text => put_string(out, b"ab")?,
+        Field::Bytes => put_string(out, b"\xff")?,
+        Field::Int => put_number(out, 9_007_199_254_740_992)?,
+        Field::Date => put_number(out, -1)?,
+        Field::Value => write_value(out, &Value::Null)?,
+        Field::Key => write_key(out, &Key::Text(text(alloc, "k")?))?,
+    }
+    Ok(())
+}
+
+fn read_one(alloc: Global, rest: &mut &[u8], field: Field) -> Result<String, Fail> {
+    match field {
+        Field::Byte => Ok(format!(in alloc; "{} ", byte_from(rest)?)?),
+        Field::Count => Ok(format!(in alloc; "{} ", count_from(rest)?)?),
+        Field::Word => Ok(format!(in alloc; "{} ", word_from(rest)?)?),
+        Field::Number => Ok(format!(in alloc; "{} ", number_from(rest)?)?),
+        Field::Text => Ok(format!(in alloc; "{} ", text_from(alloc, rest)?.as_str())?),
+        Field::Bytes => Ok(format!(in alloc; "{} ", bytes_from(alloc, rest)?.len())?),
+        Field::Int => Ok(format!(in alloc; "{} ", int_from(rest)?)?),
+        Field::Date => Ok(format!(in alloc; "{} ", date_from(rest)?)?),
+        Field::Value => Ok(format!(in alloc; "{} ", value_size(&value_from(alloc, rest)?))?),
+        Field::Key => match key_from(alloc, rest)? {
+            Key::Text(name) => Ok(format!(in alloc; "{}", name.as_str())?),
+            _ => Err(Fail::new("no text")),
+        },
+    }
+}
+
+/// Each field is put and read, one after the other.
+#[test]
+fn fields_one_after_the_other(rt: HostRuntime) -> Result<(), Fail> {
+    let alloc = rt.alloc();
+    let mut out = Vec::new(alloc);
+    for field in FIELDS {
+        put_one(alloc, &mut out, field)?;
+    }
+    let mut rest = out.as_slice();
+    let mut read = String::new(alloc);
+    for field in FIELDS {
+        read.push_str(read_one(alloc, &mut rest, field)?.as_str())?;
+    }
+    assert_eq!(rt;
+        read.as_str(),
+        "55 258 1099511627776 -2 ab 1 9007199254740992 -1 1 k"
+    );
+    assert_eq!(rt; (out.len(), rest.len()), (55, 0));
     Ok(())
 }

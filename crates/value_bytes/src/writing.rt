@@ -1,16 +1,15 @@
 // Values, written as their bytes.
-ghost use Rattle.std.specs.Prelude.{◌≡◌, ◌++◌, true, length, OnOk, OnErr};
-ghost use Rattle.std.specs.Str.{IsUtf8};
-ghost use Rattle.clone_values.specs.Limits.{IsWithinLimit};
+ghost use Rattle.std.specs.Prelude.{◌≡◌, ◌++◌, OnOk, OnErr};
 ghost use Rattle.clone_values.specs.Tree.{trees_of, members_of, pairs_of};
 ghost use Rattle.clone_values.specs.View.{tree_of};
 ghost use Rattle.clone_values.specs.Values.{IsCloneable};
-ghost use Rattle.clone_values.specs.WellFormed.{IsValue, is_value, are_values, member_values, pair_values, are_properties};
-ghost use Rattle.value_bytes.specs.Spelling.{SpellsValue, IsUnicode, ItemsAreUnicode, MembersAreUnicode, PairsAreUnicode, spelling_of, items_spelling, members_spelling, pairs_spelling, count_bytes, string_bytes};
+ghost use Rattle.clone_values.specs.WellFormed.{IsValue};
+ghost use Rattle.value_bytes.specs.Spelling.{SpellsValue, spelling_of, items_field, members_field, pairs_field, string_bytes};
 ghost use Rattle.value_bytes.specs.Writing.{BeginsWith};
 
 use crate::put_fields::{put_byte, put_count, put_number, put_string};
-use clone_values::{Items, NoMemory, Pair, Pairs, Prop, Props, Value};
+use clone_values::{Items, Pair, Pairs, Prop, Props, Value};
+use idb_base::NoMemory;
 
 /// Puts the spelling of the value at the end.
 pub fn write_value(out: &mut Vec<u8>, v: &Value) -> Result<(), NoMemory>
@@ -31,11 +30,9 @@ pub fn write_value(out: &mut Vec<u8>, v: &Value) -> Result<(), NoMemory>
 }
 
 #[cycle(put)]
-#[tactic(auto, using(clone_values::specs::Falls::smaller_tree, crate::proofs::Puts::begins_more))]
+#[tactic(auto, using(clone_values::specs::Falls::smaller_tree, crate::proofs::Puts::begins_more, crate::proofs::Puts::begins_two_more))]
 fn put_value(out: &mut Vec<u8>, v: &Value) -> Result<(), NoMemory>
-    requires { is_value (tree_of v.now) ≡ true }
     ensures written { OnOk result (out.new.items ≡ out.old.items ++ spelling_of (tree_of v.now)) }
-    ensures unicode { OnOk result (IsUnicode (tree_of v.now)) }
     ensures front { OnErr result (BeginsWith out.old.items out.new.items) }
 {
     match v {
@@ -82,12 +79,9 @@ fn put_value(out: &mut Vec<u8>, v: &Value) -> Result<(), NoMemory>
 }
 
 #[cycle(put)]
-#[tactic(auto, using(clone_values::specs::Falls::smaller_tree, crate::proofs::Puts::begins_more))]
+#[tactic(auto, using(clone_values::specs::Falls::smaller_tree, crate::proofs::Puts::begins_more, crate::proofs::Puts::begins_then))]
 fn put_items(out: &mut Vec<u8>, items: &Items) -> Result<(), NoMemory>
-    requires formed { are_values (trees_of items.now) ≡ true }
-    requires limit { IsWithinLimit items.now }
-    ensures written { OnOk result (out.new.items ≡ out.old.items ++ (count_bytes (length items.now) ++ items_spelling (trees_of items.now))) }
-    ensures unicode { OnOk result (ItemsAreUnicode (trees_of items.now)) }
+    ensures written { OnOk result (out.new.items ≡ out.old.items ++ items_field (trees_of items.now)) }
     ensures front { OnErr result (BeginsWith out.old.items out.new.items) }
 {
     put_count(out, items.len())?;
@@ -100,12 +94,9 @@ fn put_items(out: &mut Vec<u8>, items: &Items) -> Result<(), NoMemory>
 }
 
 #[cycle(put)]
-#[tactic(auto, using(crate::proofs::Puts::begins_more))]
+#[tactic(auto, using(clone_values::specs::Falls::smaller_tree, crate::proofs::Puts::begins_more, crate::proofs::Puts::begins_then))]
 fn put_props(out: &mut Vec<u8>, props: &Props) -> Result<(), NoMemory>
-    requires formed { member_values (members_of props.now) ≡ true }
-    requires named { are_properties props.now ≡ true }
-    ensures written { OnOk result (out.new.items ≡ out.old.items ++ (count_bytes (length props.now) ++ members_spelling (members_of props.now))) }
-    ensures unicode { OnOk result (MembersAreUnicode (members_of props.now)) }
+    ensures written { OnOk result (out.new.items ≡ out.old.items ++ members_field (members_of props.now)) }
     ensures front { OnErr result (BeginsWith out.old.items out.new.items) }
 {
     put_count(out, props.len())?;
@@ -120,10 +111,8 @@ fn put_props(out: &mut Vec<u8>, props: &Props) -> Result<(), NoMemory>
 #[cycle(put)]
 #[tactic(auto, using(crate::proofs::Puts::begins_more))]
 fn put_prop(out: &mut Vec<u8>, prop: &Prop) -> Result<(), NoMemory>
-    requires formed { is_value (tree_of prop.now.value) ≡ true }
-    requires limit { IsWithinLimit prop.now.name }
-    ensures written { OnOk result (out.new.items ≡ out.old.items ++ (string_bytes prop.now.name ++ spelling_of (tree_of prop.now.value))) }
-    ensures unicode { OnOk result (IsUtf8 prop.now.name × IsUnicode (tree_of prop.now.value)) }
+    ensures written { OnOk result (out.new.items
+        ≡ out.old.items ++ (string_bytes prop.now.name ++ spelling_of (tree_of prop.now.value))) }
     ensures front { OnErr result (BeginsWith out.old.items out.new.items) }
 {
     put_string(out, prop.name.as_str().as_bytes())?;
@@ -131,12 +120,9 @@ fn put_prop(out: &mut Vec<u8>, prop: &Prop) -> Result<(), NoMemory>
 }
 
 #[cycle(put)]
-#[tactic(auto, using(crate::proofs::Puts::begins_more))]
+#[tactic(auto, using(clone_values::specs::Falls::smaller_tree, crate::proofs::Puts::begins_more, crate::proofs::Puts::begins_then))]
 fn put_pairs(out: &mut Vec<u8>, pairs: &Pairs) -> Result<(), NoMemory>
-    requires formed { pair_values (pairs_of pairs.now) ≡ true }
-    requires limit { IsWithinLimit pairs.now }
-    ensures written { OnOk result (out.new.items ≡ out.old.items ++ (count_bytes (length pairs.now) ++ pairs_spelling (pairs_of pairs.now))) }
-    ensures unicode { OnOk result (PairsAreUnicode (pairs_of pairs.now)) }
+    ensures written { OnOk result (out.new.items ≡ out.old.items ++ pairs_field (pairs_of pairs.now)) }
     ensures front { OnErr result (BeginsWith out.old.items out.new.items) }
 {
     put_count(out, pairs.len())?;
@@ -151,10 +137,8 @@ fn put_pairs(out: &mut Vec<u8>, pairs: &Pairs) -> Result<(), NoMemory>
 #[cycle(put)]
 #[tactic(auto, using(crate::proofs::Puts::begins_more))]
 fn put_pair(out: &mut Vec<u8>, pair: &Pair) -> Result<(), NoMemory>
-    requires key { is_value (tree_of pair.now.key) ≡ true }
-    requires value { is_value (tree_of pair.now.value) ≡ true }
-    ensures written { OnOk result (out.new.items ≡ out.old.items ++ (spelling_of (tree_of pair.now.key) ++ spelling_of (tree_of pair.now.value))) }
-    ensures unicode { OnOk result (IsUnicode (tree_of pair.now.key) × IsUnicode (tree_of pair.now.value)) }
+    ensures written { OnOk result (out.new.items
+        ≡ out.old.items ++ (spelling_of (tree_of pair.now.key) ++ spelling_of (tree_of pair.now.value))) }
     ensures front { OnErr result (BeginsWith out.old.items out.new.items) }
 {
     put_value(out, &pair.key)?;

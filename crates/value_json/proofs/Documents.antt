@@ -1,9 +1,12 @@
 -- A document's lists and objects beside the vectors and maps that they are kept in.
-use Rattle.std.proofs.Common.{◌≡◌, ℕ, ◌+◌, ◌<◌, ◌≤◌, List, [], ◌∷◌, ◌++◌, length, map, drop, get_or, true, Option, Some, None, option_map, option_and_then, String, Global, string_bytes, refl, sym, ap, ◌∙◌, le-leb, arith, append_assoc, append-nil}
+use Rattle.std.proofs.Common.{◌≡◌, ℕ, suc, ◌+◌, ◌<◌, ◌≤◌, List, [], ◌∷◌, ◌++◌, length, map, drop, get_or, true, Option, Some, None, option_map, option_and_then, String, Global, string_bytes, refl, sym, ap, ◌∙◌, le-leb, arith, append_assoc, append-nil}
 use Rattle.std.proofs.lemmas.Bool.{lt-leb}
 use Rattle.std.proofs.lemmas.List.{drop_all, map-append}
-use Rattle.std.specs.List.{fold}
+use Rattle.std.specs.List.{fold, list_all}
 use Rattle.clone_values.specs.Names.{set_member}
+use Rattle.std.specs.Str.{IsUtf8, is_utf8}
+use Rattle.std.proofs.lemmas.Str.{is_utf8-from_IsUtf8}
+use Rattle.clone_values.specs.WellFormed.{is_text, is_byte}
 use Rattle.clone_values.specs.Tree.{Tree}
 use Rattle.clone_values.specs.View.{tree_of}
 use Rattle.clone_values.specs.declared.value_types.Value.{Value as ClonedValue}
@@ -32,6 +35,14 @@ short_members es o h = rw (members_len-members_view es) (short (length es) o h)
 
 pub long_members : {A : Type 0} (es : List (String Global × Value)) (o : Option A) → 4294967295 < length es → short_list (members_len (members_view es)) o ≡ None
 long_members es o h = rw (members_len-members_view es) (long (length es) o h)
+
+-- ---- texts and byte strings
+pub is_unicode : (s : List ℕ) → IsUtf8 s → is_utf8 s ≡ true
+is_unicode s h = is_utf8-from_IsUtf8 s h
+
+pub all_bytes : (bs : List ℕ) → ((i : ℕ) → get_or bs i 0 < 256) → list_all is_byte bs ≡ true
+all_bytes [] h = refl
+all_bytes (b ∷ bs) h = grind (arith, h 0, all_bytes bs (λ i. h (suc i)))
 
 -- ---- loops
 
@@ -64,10 +75,10 @@ set : (props : List (List ℕ × Tree)) (name : List ℕ) (t : Tree) (o : Option
 set props name t None = refl
 set props name t (Some ps) = refl
 
-pub set_one : (es left : List Entry) (e : Entry) (props new : List (List ℕ × Tree)) (t : Tree) → es ≡ e ∷ left → length (string_bytes e.0) ≤ 4294967295 → tree_in (view e.1) ≡ Some t → new ≡ set_member props (string_bytes e.0) t
+pub set_one : (es left : List Entry) (e : Entry) (props new : List (List ℕ × Tree)) (t : Tree) → es ≡ e ∷ left → is_text (string_bytes e.0) ≡ true → tree_in (view e.1) ≡ Some t → new ≡ set_member props (string_bytes e.0) t
     → option_map (fold (λ done m. set_member done m.0 m.1) new) (members_in (members_view left)) ≡ option_map (fold (λ done m. set_member done m.0 m.1) props) (members_in (members_view es))
 set_one es left e props new t here within one grown =
-    rw (here, grown, le-leb (length (string_bytes e.0)) 4294967295 within, one) (set props (string_bytes e.0) t (members_in (members_view left)))
+    rw (here, grown, within, one) (set props (string_bytes e.0) t (members_in (members_view left)))
 
 -- ---- an object of two members
 

@@ -1,19 +1,20 @@
 -- Building gives back a list that is well formed already.
-use Rattle.std.proofs.Common.{◌≡◌, ℕ, ◌+◌, Bool, true, false, not, ◌&&◌, ◌||◌, cond, if◌then◌else◌, List, [], ◌∷◌, ◌++◌, map, Some, None, option_and_then, is_some, refl, sym, ◌∙◌, ap, append_assoc, append-nil}
+use Rattle.std.proofs.Common.{◌≡◌, ℕ, ◌+◌, Bool, true, false, not, ◌&&◌, ◌||◌, cond, if◌then◌else◌, List, [], ◌∷◌, ◌++◌, map, Some, None, option_map, option_and_then, length, nat_eq, refl, sym, ◌∙◌, ap, append_assoc, append-nil}
 use Rattle.std.specs.declared.cmp.Ordering.{Ordering}
 use Rattle.std.specs.declared.cmp.Ordering.TheVariants.{Less, Equal, Greater}
-use Rattle.std.specs.Ordering.{nat_cmp, is_lt, is_eq, match_ordering, ordering_reverse}
+use Rattle.std.specs.Ordering.{nat_cmp, is_lt, match_ordering, ordering_reverse}
 use Rattle.std.specs.Cmp.{first_so, second_so}
-use Rattle.std.specs.Cmp.Lexicographic.{slice_cmp, texts_ties}
+use Rattle.std.specs.Cmp.Lexicographic.{slice_cmp}
 use Rattle.std.specs.List.{fold, list_any, list_all, position_from}
 use Rattle.std.proofs.lemmas.List.Folds.{list_any-append}
 use Rattle.std.proofs.lemmas.List.{map-append}
+use Rattle.std.proofs.lemmas.Bool.{eq-eqb}
 use Rattle.std.proofs.lemmas.Cmp.{nat_list_cmp_total}
 use Rattle.clone_values.specs.Tree.{Tree, text}
-use Rattle.clone_values.specs.Names.{names_of, rises_after, is_rising, set_member, get_member}
+use Rattle.clone_values.specs.Names.{names_of, rises_after, is_rising, set_member, set_members}
 use Rattle.clone_values.specs.Sameness.{repeats, put_once, put_pair, set_at_place}
 use Rattle.clone_values.specs.WellFormed.{are_once, is_array_name}
-use Rattle.value_json.specs.Reading.{given, with_name, with_names}
+use Rattle.value_json.specs.Reading.{tested, each_named, named_apart}
 use Rattle.value_json.proofs.Kept.{neither, alone_and}
 
 -- ---- members that stand once
@@ -69,15 +70,11 @@ module _ (m : List ℕ × Tree) (rest : List (List ℕ × Tree)) where
   set_last (k ∷ done) h =
       ap (λ o. match_ordering o (m ∷ k ∷ done) (m ∷ done) (k ∷ set_member done m.0 m.1)) (above k done h) ∙ ap (λ r. k ∷ r) (set_last done (less_rising k done h))
 
-  get_new : (done : List (List ℕ × Tree)) → is_rising (names_of (done ++ m ∷ rest)) ≡ true → get_member done m.0 ≡ None
-  get_new [] h = refl
-  get_new (k ∷ done) h = rw (texts_ties k.0 m.0 ∙ ap is_eq (below k.0 done h)) (get_new done (less_rising k done h))
-
-pub properties_same : (ms done : List (List ℕ × Tree)) → is_rising (names_of (done ++ ms)) ≡ true → fold (λ d m. set_member d m.0 m.1) done ms ≡ done ++ ms
+pub properties_same : (ms done : List (List ℕ × Tree)) → is_rising (names_of (done ++ ms)) ≡ true → set_members done ms ≡ done ++ ms
 properties_same [] done h = sym (append-nil done)
 properties_same (m ∷ ms) done h =
     let whole = append_assoc done (m ∷ []) ms in
-    ap (λ w. fold (λ d k. set_member d k.0 k.1) w ms) (set_last m ms done h) ∙ properties_same ms (done ++ m ∷ []) (ap (λ w. is_rising (names_of w)) whole ∙ h) ∙ whole
+    ap (λ w. set_members w ms) (set_last m ms done h) ∙ properties_same ms (done ++ m ∷ []) (ap (λ w. is_rising (names_of w)) whole ∙ h) ∙ whole
 
 -- the names as texts
 abbrev pub texted : List (List ℕ × Tree) → List (Tree × Tree)
@@ -87,11 +84,12 @@ texted ms = map (λ m. (text m.0, m.1)) ms
 abbrev pub may_stand : Bool → List (List ℕ × Tree) → Bool
 may_stand of_array ms = list_all (λ n. not of_array || is_array_name n) (names_of ms)
 
-pub names_same : (of_array : Bool) (ms done : List (List ℕ × Tree)) → is_rising (names_of (done ++ ms)) ≡ true → may_stand of_array ms ≡ true → with_names of_array done (texted ms) ≡ Some (done ++ ms)
-names_same of_array [] done h k = ap Some (sym (append-nil done))
-names_same of_array (m ∷ ms) done h k =
-    let whole = append_assoc done (m ∷ []) ms in
+pub each_same : (of_array : Bool) (ms : List (List ℕ × Tree)) → may_stand of_array ms ≡ true → each_named of_array (texted ms) ≡ Some ms
+each_same of_array [] k = refl
+each_same of_array (m ∷ ms) k =
     let name = first_so (not of_array || is_array_name m.0) (may_stand of_array ms) k in
-    let one : with_name of_array done (text m.0) m.1 ≡ Some (done ++ m ∷ []) = (λ i. given (name i && not (is_some (get_new m ms done h i))) (set_last m ms done h i)) in
-    ap (option_and_then (λ more. with_names of_array more (texted ms))) one
-    ∙ names_same of_array ms (done ++ m ∷ []) (ap (λ w. is_rising (names_of w)) whole ∙ h) (second_so (not of_array || is_array_name m.0) (may_stand of_array ms) k) ∙ ap Some whole
+    let more = each_same of_array ms (second_so (not of_array || is_array_name m.0) (may_stand of_array ms) k) in
+    λ i. option_and_then (λ n. option_map (λ ns. n ∷ ns) (more i)) (tested (name i) (m.0, m.1))
+
+pub apart_same : (ms : List (List ℕ × Tree)) → is_rising (names_of ms) ≡ true → named_apart ms ≡ Some ms
+apart_same ms h = ap (λ w. tested (nat_eq (length w) (length ms)) w) (properties_same ms [] h) ∙ ap (λ b. tested b ms) (eq-eqb (length ms) (length ms) refl)

@@ -1,6 +1,8 @@
-pub mod Lengths
 pub mod Documents
 pub mod Kept
 pub mod WellFormedReading
 pub mod Folds
 pub mod RoundTrip
+pub mod Members
+pub mod TokensLemmas
+pub mod LevelsLemmas

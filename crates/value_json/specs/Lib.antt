@@ -1,5 +1,6 @@
 pub mod Marks
 pub mod Reading
-pub mod Gives
+pub mod Levels
 pub mod Writing
+pub mod Tokens
 pub mod Laws

@@ -1,41 +1,50 @@
 -- What a JSON document reads as.
+--     IsUnread                   what an error says of reading
 --     tree_in                    the value, where the document has a reading
 --     trees_in, pairs_in         the values of a list, and its pairs
 --     members_in                 the names and values of an object's members
---     set_of, map_of, properties_of, named_in      what is made of these
-use Rattle.std.specs.Prelude.{ℕ, Bool, true, false, not, ◌&&◌, ◌||◌, nat_le, List, [], ◌∷◌, if◌then◌else◌, Option, Some, None, option_map, option_and_then, is_some, Result, Ok, Err}
+--     set_of, map_of, named_in      what is made of these
+use Rattle.std.specs.Prelude.{◌≡◌, ⊤, ℕ, Bool, true, false, not, ◌&&◌, ◌||◌, nat_le, List, [], ◌∷◌, if◌then◌else◌, Option, Some, None, option_map, option_and_then, length, ◌==◌, Result, Ok, Err}
 use Rattle.std.specs.List.{fold}
+use Rattle.idb_base.specs.declared.limits.TheConstants.{GREATEST_LENGTH}
 use Rattle.clone_values.specs.Tree.{Tree, undefined, null, boolean, int, text, date, bytes, array, object, map_object, set_object, function, no_members, trees_of, members_of, pairs_of}
-use Rattle.clone_values.specs.Names.{set_member, get_member}
+use Rattle.clone_values.specs.Names.{set_members}
 use Rattle.clone_values.specs.Sameness.{put_once, put_pair}
-use Rattle.clone_values.specs.WellFormed.{is_int, is_date, is_within_limit, is_array_name}
+use Rattle.clone_values.specs.WellFormed.{is_int, is_date, is_text, is_byte_string, is_array_name}
 use Rattle.serde_json.specs.Data.{Data, Num, Items, Members}
 use Rattle.serde_json.specs.Data as json
 use Rattle.serde_json.specs.Events.{items_len, members_len}
 use Rattle.serde_json.specs.Find.{as_i64}
 use Rattle.hex.specs.Hex.{decode_of}
 use Rattle.hex.specs.declared.error.FromHexError.{FromHexError}
+use Rattle.value_json.specs.declared.error.JsonError.{JsonError}
+use Rattle.value_json.specs.declared.error.JsonError.TheVariants.{Spelling, NoMemory}
 use Rattle.value_json.specs.Marks.{mark_in, is_full_array, any_marked}
 use Rattle.value_json.specs.declared.marks.Mark.{Mark}
 use Rattle.value_json.specs.declared.marks.Mark.TheVariants as mark
 
+-- What an error says of reading: that there is no reading, or for want of memory nothing at all.
+abbrev pub IsUnread : {Y : Type 0} → JsonError → Option Y → Type 0
+IsUnread Spelling read = read ≡ None
+IsUnread NoMemory read = ⊤
+
 -- the value, where the test passes
-abbrev pub given : {A : Type 0} → Bool → A → Option A
-given b a = if b then Some a else None
+abbrev pub tested : {A : Type 0} → Bool → A → Option A
+tested b a = if b then Some a else None
 
 -- ---- values without members
 
 abbrev pub int_in : Num → Option Tree
-int_in n = option_and_then (λ z. given (is_int z) (int z)) (as_i64 n)
+int_in n = option_and_then (λ z. tested (is_int z) (int z)) (as_i64 n)
 
 abbrev pub date_in : Num → Option Tree
-date_in n = option_and_then (λ z. given (is_date z) (date z)) (as_i64 n)
+date_in n = option_and_then (λ z. tested (is_date z) (date z)) (as_i64 n)
 
 abbrev pub text_in : List ℕ → Option Tree
-text_in s = given (is_within_limit s) (text s)
+text_in s = tested (is_text s) (text s)
 
 abbrev pub decoded : Result (List ℕ) FromHexError → Option Tree
-decoded (Ok bs) = given (is_within_limit bs) (bytes bs)
+decoded (Ok bs) = tested (is_byte_string bs) (bytes bs)
 decoded (Err e) = None
 
 -- hex digits, two a byte
@@ -45,7 +54,7 @@ bytes_in s = decoded (decode_of s)
 -- ---- lists: with at most 4,294,967,295 members
 
 abbrev pub short_list : {A : Type 0} → ℕ → Option A → Option A
-short_list n o = if nat_le n 4294967295 then o else None
+short_list n o = if nat_le n GREATEST_LENGTH then o else None
 
 -- an Array of these items alone
 abbrev pub plain_array : List Tree → Tree
@@ -59,29 +68,29 @@ plain_object ms = object (members_of ms)
 abbrev pub full_array : Option (List Tree) → Option (List (List ℕ × Tree)) → Option Tree
 full_array items names = option_and_then (λ ts. option_map (λ ms. array (trees_of ts) (members_of ms)) names) items
 
--- put one by one: the members of a Set, the entries of a Map, the properties of an object
+-- put one by one: the members of a Set, the entries of a Map
 abbrev pub set_of : List Tree → List Tree
 set_of ts = fold put_once [] ts
 
 abbrev pub map_of : List (Tree × Tree) → List (Tree × Tree)
 map_of ps = fold (λ done p. put_pair done p.0 p.1) [] ps
 
-abbrev pub properties_of : List (List ℕ × Tree) → List (List ℕ × Tree)
-properties_of ms = fold (λ done m. set_member done m.0 m.1) [] ms
+-- a property whose name is a text that is allowed
+abbrev pub named_one : Bool → Tree → Tree → Option (List ℕ × Tree)
+named_one of_array (text n) v = tested (not of_array || is_array_name n) (n, v)
+named_one of_array _ v = None
 
--- the properties with one more, whose name is a text that is allowed and new
-abbrev pub with_name : Bool → List (List ℕ × Tree) → Tree → Tree → Option (List (List ℕ × Tree))
-with_name of_array ms (text n) v = given ((not of_array || is_array_name n) && not (is_some (get_member ms n))) (set_member ms n v)
-with_name of_array ms _ v = None
+abbrev pub each_named : Bool → List (Tree × Tree) → Option (List (List ℕ × Tree))
+each_named of_array [] = Some []
+each_named of_array (p ∷ ps) = option_and_then (λ m. option_map (λ ms. m ∷ ms) (each_named of_array ps)) (named_one of_array p.0 p.1)
 
--- these properties, and then those of a list of names and values
-abbrev pub with_names : Bool → List (List ℕ × Tree) → List (Tree × Tree) → Option (List (List ℕ × Tree))
-with_names of_array ms [] = Some ms
-with_names of_array ms (p ∷ ps) = option_and_then (λ more. with_names of_array more ps) (with_name of_array ms p.0 p.1)
+-- these properties in the order of their names, where none is named as another is
+abbrev pub named_apart : List (List ℕ × Tree) → Option (List (List ℕ × Tree))
+named_apart ms = tested (length (set_members [] ms) == length ms) (set_members [] ms)
 
 -- the properties that a list of names and values has, of an Array or an Object
 abbrev pub named_in : Bool → Option (List (Tree × Tree)) → Option (List (List ℕ × Tree))
-named_in of_array pairs = option_and_then (with_names of_array []) pairs
+named_in of_array pairs = option_and_then named_apart (option_and_then (each_named of_array) pairs)
 
 -- ---- documents
 
@@ -93,7 +102,7 @@ abbrev mutual
   tree_in (json.string s) = text_in s
   tree_in (json.array ds) = option_map plain_array (short_list (items_len ds) (trees_in ds))
   tree_in (json.object ms) = if any_marked ms then object_in ms
-      else option_map plain_object (option_map properties_of (short_list (members_len ms) (members_in ms)))
+      else option_map plain_object (option_map (set_members []) (short_list (members_len ms) (members_in ms)))
 
   -- an object with a name that begins with `$`
   pub object_in : Members → Option Tree
@@ -142,5 +151,5 @@ abbrev mutual
   -- each member of an object
   pub members_in : Members → Option (List (List ℕ × Tree))
   members_in json.no_members = Some []
-  members_in (json.member name d ms) = if is_within_limit name
+  members_in (json.member name d ms) = if is_text name
       then option_and_then (λ t. option_map (λ ps. (name, t) ∷ ps) (members_in ms)) (tree_in d) else None

@@ -1,4 +1,4 @@
-use clone_values::NoMemory;
+use idb_base::NoMemory;
 use std::alloc::AllocFailed;
 
 /// Why a document gave no value.

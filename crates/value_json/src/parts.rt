@@ -1,34 +1,37 @@
 // Values without members.
-ghost use Rattle.std.specs.Prelude.{◌≡◌};
+ghost use Rattle.std.specs.Prelude.{◌≡◌, IsTrue};
 ghost use Rattle.serde_json.specs.View.{number_view};
 ghost use Rattle.clone_values.specs.View.{tree_of};
-ghost use Rattle.clone_values.specs.WellFormed.{is_int, is_date};
-ghost use Rattle.value_json.specs.Gives.{Gives};
-ghost use Rattle.value_json.specs.Reading.{int_in, date_in, text_in, bytes_in};
+ghost use Rattle.clone_values.specs.WellFormed.{is_text, is_byte_string};
+ghost use Rattle.idb_base.specs.Lists.{IsWithinLimit};
+ghost use Rattle.idb_base.specs.Results.{Gives};
+ghost use Rattle.value_json.specs.Reading.{IsUnread, int_in, date_in, text_in, bytes_in};
 
 use crate::JsonError;
-use clone_values::{Bytes, Text, Value};
+use clone_values::{Bytes, Text, Value, is_date, is_int};
 use hex::FromHexError;
+use idb_base::GREATEST_LENGTH;
 use serde_json::Number;
 use std::alloc::Global;
 
-/// The greatest number of bytes of a text or byte string, and of members of a list.
-pub(crate) const LIMIT: usize = 4_294_967_295;
-
-fn is_int(n: i64) -> bool
-    ensures { result ≡ is_int n }
+/// Whether a text is short enough to be stored.
+#[tactic(auto, using(crate::proofs::Documents::is_unicode))]
+pub(crate) fn is_text(s: &str) -> bool
+    ensures text { result ≡ is_text s.now }
+    ensures short { IsTrue result → IsWithinLimit s.now }
 {
-    (-9_007_199_254_740_992..=9_007_199_254_740_992).contains(&n)
+    s.as_bytes().len() <= GREATEST_LENGTH
 }
 
-fn is_date(d: i64) -> bool
-    ensures { result ≡ is_date d }
+fn is_byte_string(bytes: &[u8]) -> bool
+    ensures bytes { result ≡ is_byte_string bytes.now }
+    ensures short { IsTrue result → IsWithinLimit bytes.now }
 {
-    (-8_640_000_000_000_000..=8_640_000_000_000_000).contains(&d)
+    bytes.len() <= GREATEST_LENGTH
 }
 
 pub(crate) fn read_int(number: &Number) -> Result<Value, JsonError>
-    ensures { Gives tree_of result (int_in (number_view number.now)) }
+    ensures { Gives IsUnread tree_of result (int_in (number_view number.now)) }
 {
     match number.as_i64() {
         Some(n) if is_int(n) => Ok(Value::Int(n)),
@@ -37,7 +40,7 @@ pub(crate) fn read_int(number: &Number) -> Result<Value, JsonError>
 }
 
 pub(crate) fn read_date(number: &Number) -> Result<Value, JsonError>
-    ensures { Gives tree_of result (date_in (number_view number.now)) }
+    ensures { Gives IsUnread tree_of result (date_in (number_view number.now)) }
 {
     match number.as_i64() {
         Some(d) if is_date(d) => Ok(Value::Date(d)),
@@ -46,19 +49,21 @@ pub(crate) fn read_date(number: &Number) -> Result<Value, JsonError>
 }
 
 pub(crate) fn read_text(alloc: Global, text: &str) -> Result<Value, JsonError>
-    ensures { Gives tree_of result (text_in text.now) }
+    ensures { Gives IsUnread tree_of result (text_in text.now) }
 {
-    if text.len() > LIMIT {
+    if !is_text(text) {
         return Err(JsonError::Spelling);
     }
     Ok(Value::Text(Text::copy_of(alloc, text)?))
 }
 
 pub(crate) fn read_bytes(alloc: Global, digits: &str) -> Result<Value, JsonError>
-    ensures { Gives tree_of result (bytes_in digits.now) }
+    ensures { Gives IsUnread tree_of result (bytes_in digits.now) }
 {
     match hex::decode(alloc, digits.as_bytes()) {
-        Ok(bytes) if bytes.len() <= LIMIT => Ok(Value::Bytes(Bytes::from_vec(bytes))),
+        Ok(bytes) if is_byte_string(bytes.as_slice()) => {
+            Ok(Value::Bytes(Bytes::from_vec(alloc, bytes)?))
+        }
         Err(FromHexError::OutOfMemory) => Err(JsonError::NoMemory),
         _ => Err(JsonError::Spelling),
     }

@@ -2,18 +2,20 @@
 ghost use Rattle.std.specs.Prelude.{◌≡◌, ◌≤◌, ◌<◌, [], length, Bool, false, true, None, Some, map, option_map, IfOk, IsErrOf, OnOk};
 ghost use Rattle.serde_json.specs.View.{view, items_view, members_view};
 ghost use Rattle.serde_json.specs.Events.{items_len, members_len};
-ghost use Rattle.clone_values.specs.Limits.{IsWithinLimit};
+ghost use Rattle.idb_base.specs.Lists.{IsWithinLimit};
 ghost use Rattle.clone_values.specs.Tree.{object, members_of};
+ghost use Rattle.clone_values.specs.Names.{set_members};
 ghost use Rattle.clone_values.specs.View.{tree_of, pair_of};
 ghost use Rattle.clone_values.specs.WellFormed.{IsValue};
-ghost use Rattle.value_json.specs.Gives.{Gives};
-ghost use Rattle.value_json.specs.Reading.{tree_in, object_in, marked_in, full_array, list_in, pair_list_in, trees_in, members_in, pair_in, pairs_in, short_list, properties_of, named_in};
+ghost use Rattle.idb_base.specs.Results.{Gives};
+ghost use Rattle.value_json.specs.Reading.{IsUnread, tree_in, object_in, marked_in, full_array, list_in, pair_list_in, trees_in, members_in, pair_in, pairs_in, short_list, named_in};
 
 use crate::JsonError;
 use crate::building::{map_from, named_from, set_from};
 use crate::marks::{Mark, any_marked, is_full_array, mark_of};
-use crate::parts::{LIMIT, read_bytes, read_date, read_int, read_text};
+use crate::parts::{is_text, read_bytes, read_date, read_int, read_text};
 use clone_values::{Items, Pair, Props, Text, Value};
+use idb_base::GREATEST_LENGTH;
 use serde_json::{Map, Value as Json};
 use std::alloc::Global;
 
@@ -30,7 +32,7 @@ pub fn value_from_json(alloc: Global, j: &Json) -> Result<Value, JsonError>
 
 #[cycle(read)]
 fn read(alloc: Global, json: &Json) -> Result<Value, JsonError>
-    ensures { Gives tree_of result (tree_in (view json.now)) }
+    ensures { Gives IsUnread tree_of result (tree_in (view json.now)) }
 {
     match json {
         Json::Null => Ok(Value::Null),
@@ -51,7 +53,7 @@ fn read(alloc: Global, json: &Json) -> Result<Value, JsonError>
 // An object with a name that begins with `$`.
 #[cycle(read)]
 fn read_object(alloc: Global, members: &Map<String, Json>) -> Result<Value, JsonError>
-    ensures { Gives tree_of result (object_in (members_view members.now.entries)) }
+    ensures { Gives IsUnread tree_of result (object_in (members_view members.now.entries)) }
 {
     let mut each = members.iter();
     let Some((name, member)) = each.next() else {
@@ -74,7 +76,7 @@ fn read_object(alloc: Global, members: &Map<String, Json>) -> Result<Value, Json
 // What stands behind the one name of an object.
 #[cycle(read)]
 fn read_marked(alloc: Global, mark: Option<Mark>, json: &Json) -> Result<Value, JsonError>
-    ensures { Gives tree_of result (marked_in mark (view json.now)) }
+    ensures { Gives IsUnread tree_of result (marked_in mark (view json.now)) }
 {
     match (mark, json) {
         (Some(Mark::Undefined), Json::Null) => Ok(Value::Undefined),
@@ -93,8 +95,8 @@ fn read_marked(alloc: Global, mark: Option<Mark>, json: &Json) -> Result<Value, 
             Ok(Value::Map(map_from(alloc, pairs)?))
         }
         (Some(Mark::Set), Json::Array(list)) => {
-            let items = read_items(alloc, list)?;
-            Ok(Value::Set(set_from(alloc, items)?))
+            let values = read_values(alloc, list)?;
+            Ok(Value::Set(set_from(alloc, values)?))
         }
         _ => Err(JsonError::Spelling),
     }
@@ -102,7 +104,7 @@ fn read_marked(alloc: Global, mark: Option<Mark>, json: &Json) -> Result<Value, 
 
 #[cycle(read)]
 fn read_list(alloc: Global, json: &Json) -> Result<Items, JsonError>
-    ensures { Gives (λ ts. ts) result (list_in (view json.now)) }
+    ensures { Gives IsUnread (λ ts. ts) result (list_in (view json.now)) }
 {
     match json {
         Json::Array(list) => read_items(alloc, list),
@@ -112,7 +114,7 @@ fn read_list(alloc: Global, json: &Json) -> Result<Items, JsonError>
 
 #[cycle(read)]
 fn read_pair_list(alloc: Global, json: &Json) -> Result<Vec<Pair>, JsonError>
-    ensures read { Gives (λ ps. map pair_of ps.items) result (pair_list_in (view json.now)) }
+    ensures read { Gives IsUnread (λ ps. map pair_of ps.items) result (pair_list_in (view json.now)) }
     ensures short { IfOk result (λ ps. IsWithinLimit ps.items) }
 {
     match json {
@@ -121,33 +123,43 @@ fn read_pair_list(alloc: Global, json: &Json) -> Result<Vec<Pair>, JsonError>
     }
 }
 
+// The values of a list, as items.
+#[cycle(read)]
+fn read_items(alloc: Global, list: &Vec<Json>) -> Result<Items, JsonError>
+    ensures { Gives IsUnread (λ ts. ts) result
+        (short_list (items_len (items_view list.now.items)) (trees_in (items_view list.now.items))) }
+{
+    let values = read_values(alloc, list)?;
+    Ok(Items::from_vec(alloc, values)?)
+}
+
 // The values of a list.
 #[cycle(read)]
 #[tactic(auto, using(crate::proofs::Documents::short_items, crate::proofs::Documents::long_items))]
-fn read_items(alloc: Global, list: &Vec<Json>) -> Result<Items, JsonError>
-    ensures read { Gives (λ ts. ts) result
+fn read_values(alloc: Global, list: &Vec<Json>) -> Result<Vec<Value>, JsonError>
+    ensures read { Gives IsUnread (λ vs. map tree_of vs.items) result
         (short_list (items_len (items_view list.now.items)) (trees_in (items_view list.now.items))) }
-    ensures short { IfOk result (λ ts. IsWithinLimit ts) }
+    ensures short { IfOk result (λ vs. IsWithinLimit vs.items) }
 {
-    if list.len() > LIMIT {
+    if list.len() > GREATEST_LENGTH {
         return Err(JsonError::Spelling);
     }
-    let mut items = Vec::new(alloc);
+    let mut values = Vec::new(alloc);
     for json in list {
-        items.push(read(alloc, json)?)?;
+        values.push(read(alloc, json)?)?;
     }
-    Ok(Items::from_vec(items))
+    Ok(values)
 }
 
 // The pairs of a list.
 #[cycle(read)]
 #[tactic(auto, using(crate::proofs::Documents::short_items, crate::proofs::Documents::long_items))]
 fn read_pairs(alloc: Global, list: &Vec<Json>) -> Result<Vec<Pair>, JsonError>
-    ensures read { Gives (λ ps. map pair_of ps.items) result
+    ensures read { Gives IsUnread (λ ps. map pair_of ps.items) result
         (short_list (items_len (items_view list.now.items)) (pairs_in (items_view list.now.items))) }
     ensures short { IfOk result (λ ps. IsWithinLimit ps.items) }
 {
-    if list.len() > LIMIT {
+    if list.len() > GREATEST_LENGTH {
         return Err(JsonError::Spelling);
     }
     let mut pairs = Vec::new(alloc);
@@ -160,7 +172,7 @@ fn read_pairs(alloc: Global, list: &Vec<Json>) -> Result<Vec<Pair>, JsonError>
 // A list of two values.
 #[cycle(read)]
 fn read_pair(alloc: Global, json: &Json) -> Result<Pair, JsonError>
-    ensures { Gives pair_of result (pair_in (view json.now)) }
+    ensures { Gives IsUnread pair_of result (pair_in (view json.now)) }
 {
     match json {
         Json::Array(list) => match list.as_slice() {
@@ -177,21 +189,22 @@ fn read_pair(alloc: Global, json: &Json) -> Result<Pair, JsonError>
 
 // The properties of a plain object.
 #[cycle(read)]
-#[tactic(auto, using(crate::proofs::Documents::short_members, crate::proofs::Documents::long_members, crate::proofs::Lengths::set_member_longer))]
+#[tactic(auto, using(crate::proofs::Documents::short_members, crate::proofs::Documents::long_members, clone_values::proofs::Laws::set_longer))]
 fn read_members(alloc: Global, members: &Map<String, Json>) -> Result<Props, JsonError>
-    ensures { Gives (λ ms. ms) result (option_map properties_of
+    ensures { Gives IsUnread (λ ms. ms) result (option_map (set_members [])
         (short_list (members_len (members_view members.now.entries)) (members_in (members_view members.now.entries)))) }
 {
-    if members.len() > LIMIT {
+    if members.len() > GREATEST_LENGTH {
         return Err(JsonError::Spelling);
     }
     let mut props = Props::new(alloc);
     for (name, json) in members.iter() {
-        if name.len() > LIMIT {
+        let text = name.as_str();
+        if !is_text(text) {
             return Err(JsonError::Spelling);
         }
         let value = read(alloc, json)?;
-        props.set(Text::copy_of(alloc, name.as_str())?, value)?;
+        props.set(Text::copy_of(alloc, text)?, value)?;
     }
     Ok(props)
 }

@@ -129,6 +129,12 @@ fn written_again(alloc: Global, text: &str) -> Result<String, Fail> {
     Ok(document.to_string(alloc)?)
 }
 
+fn pushed(alloc: Global, text: &str) -> Result<Vec<u8>, Fail> {
+    let mut out = vec![in alloc; b'.']?;
+    push_value_text(alloc, &mut out, &read(alloc, text)?)?;
+    Ok(out)
+}
+
 fn is_refused(alloc: Global, text: &str) -> Result<bool, Fail> {
     let document = Json::from_str(alloc, text)?;
     Ok(matches!(value_from_json(alloc, &document), Err(JsonError::Spelling)))
@@ -138,6 +144,10 @@ fn is_refused(alloc: Global, text: &str) -> Result<bool, Fail> {
 fn each_form_is_read_and_written(rt: HostRuntime) -> Result<(), Fail> {
     for (text, written) in READ {
         assert_eq!(rt; written_again(rt.alloc(), text)?.as_str(), written);
+        assert_eq!(rt;
+            pushed(rt.alloc(), text)?.as_slice().get(1..),
+            Some(written.as_bytes())
+        );
     }
     Ok(())
 }
@@ -174,13 +184,60 @@ fn a_key_is_written_as_its_value(rt: HostRuntime) -> Result<(), Fail> {
         Key::Number(1),
         Key::Date(-2),
         Key::Text(Text::copy_of(alloc, "$")?),
-        Key::Binary(Bytes::from_vec(vec![in alloc; 0, 171]?)),
+        Key::Binary(Bytes::from_vec(alloc, vec![in alloc; 0, 171]?)?),
         Key::Array(Keys::new(alloc)),
     ]?;
-    let key = Key::Array(Keys::from_vec(keys));
+    let key = Key::Array(Keys::from_vec(alloc, keys)?);
     assert_eq!(rt;
         key_to_json(alloc, &key)?.to_string(alloc)?.as_str(),
         "[1,{\"$date\":-2},\"$\",{\"$bytes\":\"00ab\"},[]]"
+    );
+    let mut out = Vec::new(alloc);
+    push_key_text(alloc, &mut out, &key)?;
+    assert_eq!(rt;
+        out.as_slice(),
+        b"[1,{\"$date\":-2},\"$\",{\"$bytes\":\"00ab\"},[]]".as_slice()
+    );
+    Ok(())
+}
+
+/// The kind of a level and how many documents it holds.
+fn level_text(alloc: Global, text: &str) -> Result<String, Fail> {
+    let document = Json::from_str(alloc, text)?;
+    let (kind, len, names) = match level_of(alloc, &document) {
+        Ok(Level::Leaf(_)) => ("leaf", 0, 0),
+        Ok(Level::Array(list)) => ("array", list.len(), 0),
+        Ok(Level::NamedArray(list, names)) => ("named array", list.len(), names.len()),
+        Ok(Level::Object(members)) => ("object", members.len(), 0),
+        Ok(Level::NamedObject(names)) => ("named object", 0, names.len()),
+        Ok(Level::Map(list)) => ("map", list.len(), 0),
+        Ok(Level::Set(list)) => ("set", list.len(), 0),
+        Err(_) => ("refused", 0, 0),
+    };
+    Ok(format!(in alloc; "{kind} {len} {names}; ")?)
+}
+
+/// What a level holds isn't looked at: `{"$x":1}` has no reading, and stands in each of these.
+#[test]
+fn one_level_is_read(rt: HostRuntime) -> Result<(), Fail> {
+    let mut levels = String::new(rt.alloc());
+    for text in [
+        "{\"$date\":1}",
+        "[{\"$x\":1}]",
+        "{\"$array\":[1,{\"$x\":1}]}",
+        "{\"$array\":[1,2],\"$named\":[{\"$x\":1}]}",
+        "{\"a\":{\"$x\":1}}",
+        "{\"$object\":[{\"$x\":1}]}",
+        "{\"$map\":[{\"$x\":1}]}",
+        "{\"$set\":[{\"$x\":1}]}",
+        "{\"$x\":1}",
+        "{\"$set\":{}}",
+    ] {
+        levels.push_str(level_text(rt.alloc(), text)?.as_str())?;
+    }
+    assert_eq!(rt;
+        levels.as_str(),
+        "leaf 0 0; array 1 0; array 2 0; named array 2 1; object 1 0; named object 0 1; map 1 0; set 1 0; refused 0 0; refused 0 0; "
     );
     Ok(())
 }

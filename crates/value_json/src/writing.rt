@@ -9,7 +9,8 @@ ghost use Rattle.value_json.specs.Writing.{json_of, marked, pair_data, array_dat
 ghost use Rattle.clone_values.specs.KeyValues.{value_of_key, values_of_keys};
 
 use crate::marks::begins_marked;
-use clone_values::{Bytes, Items, Key, Keys, NoMemory, Pairs, Props, Value};
+use clone_values::{Bytes, Items, Key, Keys, Pairs, Props, Value};
+use idb_base::NoMemory;
 use serde_json::{Map, Value as Json};
 use std::alloc::Global;
 
@@ -162,7 +163,7 @@ fn array(alloc: Global, items: Vec<Json>, named: Vec<Json>) -> Result<Json, NoMe
     Ok(Json::from(object))
 }
 
-fn any_marked_name(props: &Props) -> bool
+pub(crate) fn any_marked_name(props: &Props) -> bool
     ensures { result ≡ any_marked_name (members_of props.now) }
 {
     for place in 0..props.len() {

@@ -1,3 +1,4 @@
 mod Indexes
 mod NewMembers
 mod Ties
+mod Lengths

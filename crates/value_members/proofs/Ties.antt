@@ -77,21 +77,21 @@ mark_itself m = ap (λ o. ordering_then o (ordering_then (int_cmp m.1 m.1) (slic
     ∙ ap (λ o. ordering_then o (slice_cmp nat_cmp m.2 m.2)) (tied_itself int_cmp_total m.1) ∙ tied_itself nat_list_cmp_total m.2
 
 -- ---- keys in the order of their marks
-module _ {K : Type 0} (cmp : K → K → Ordering) (shown : K → Mark) (cmp_is : (x y : K) → cmp x y ≡ mark_cmp (shown x) (shown y)) where
+module _ {K : Type 0} (cmp : K → K → Ordering) (mark_shown : K → Mark) (cmp_is : (x y : K) → cmp x y ≡ mark_cmp (mark_shown x) (mark_shown y)) where
   -- whether a key has this mark
   abbrev at_mark : Mark → K → Bool
-  at_mark m k = is_eq (mark_cmp m (shown k))
+  at_mark m k = is_eq (mark_cmp m (mark_shown k))
 
   one_test : (m : Mark) (k x : K) → cmp k x ≡ Equal → at_mark m x ≡ at_mark m k
-  one_test m k x e = ap (λ n. is_eq (mark_cmp m n)) (sym (one_mark (shown k) (shown x) (sym (cmp_is k x) ∙ e)))
+  one_test m k x e = ap (λ n. is_eq (mark_cmp m n)) (sym (one_mark (mark_shown k) (mark_shown x) (sym (cmp_is k x) ∙ e)))
 
   not_both : (m : Mark) (k x : K) → cmp k x ≡ Greater → (at_mark m x && at_mark m k) ≡ false
   not_both m k x e = by (at_mark m x) (at_mark m k) refl refl
     where
       by : (a b : Bool) → at_mark m x ≡ a → at_mark m k ≡ b → (a && b) ≡ false
       by true true g h =
-          let there : m ≡ shown x = one_mark m (shown x) ((Equal-is (mark_cmp m (shown x))).0 g) in
-          let here : m ≡ shown k = one_mark m (shown k) ((Equal-is (mark_cmp m (shown k))).0 h) in
+          let there : m ≡ mark_shown x = one_mark m (mark_shown x) ((Equal-is (mark_cmp m (mark_shown x))).0 g) in
+          let here : m ≡ mark_shown k = one_mark m (mark_shown k) ((Equal-is (mark_cmp m (mark_shown k))).0 h) in
           let tie : cmp k x ≡ Equal = cmp_is k x ∙ (λ i. mark_cmp (sym here i) (sym there i)) ∙ mark_itself m in
           cc
       by true false g h = refl
@@ -134,13 +134,13 @@ module _ {K : Type 0} (cmp : K → K → Ordering) (shown : K → Mark) (cmp_is 
       turn false b e = refl
 
   -- a set that got the key of a primitive
-  pub noted : (old new : List K) (k : K) (u : Tree) → is_primitive u ≡ true → shown k ≡ mark_of u → new ≡ insert_key cmp old k
-      → (t : Tree) → has shown new t ≡ (has shown old t || repeats u t)
+  pub noted : (old new : List K) (k : K) (u : Tree) → is_primitive u ≡ true → mark_shown k ≡ mark_of u → new ≡ insert_key cmp old k
+      → (t : Tree) → has mark_shown new t ≡ (has mark_shown old t || repeats u t)
   noted old new k u primitive mark put t =
-      ap (λ ks. has shown ks t) put
+      ap (λ ks. has mark_shown ks t) put
       ∙ ap (λ b. is_primitive t && b) (any_insert (mark_of t) k old)
       ∙ spread (is_primitive t) (at_mark (mark_of t) k) (list_any (at_mark (mark_of t)) old)
-      ∙ ap (λ b. has shown old t || b) (ap (λ m. is_primitive t && is_eq (mark_cmp (mark_of t) m)) mark ∙ ties t u primitive)
+      ∙ ap (λ b. has mark_shown old t || b) (ap (λ m. is_primitive t && is_eq (mark_cmp (mark_of t) m)) mark ∙ ties t u primitive)
     where
       spread : (a b c : Bool) → (a && (b || c)) ≡ ((a && c) || (a && b))
       spread true true true = refl
@@ -150,20 +150,20 @@ module _ {K : Type 0} (cmp : K → K → Ordering) (shown : K → Mark) (cmp_is 
       spread false b c = refl
 
   -- a map that got a place for the key of a primitive
-  pub kept : (old new : List (K × ℕ)) (k : K) (v : ℕ) (u : Tree) → is_primitive u ≡ true → shown k ≡ mark_of u → new ≡ insert_entry cmp old k v
-      → (t : Tree) → place_in shown new t ≡ (if repeats u t then Some v else place_in shown old t)
+  pub kept : (old new : List (K × ℕ)) (k : K) (v : ℕ) (u : Tree) → is_primitive u ≡ true → mark_shown k ≡ mark_of u → new ≡ insert_entry cmp old k v
+      → (t : Tree) → place_in mark_shown new t ≡ (if repeats u t then Some v else place_in mark_shown old t)
   kept old new k v u primitive mark put t =
-      ap (λ es. place_in shown es t) put
+      ap (λ es. place_in mark_shown es t) put
       ∙ ap (λ o. if is_primitive t then o else None) (found_insert (mark_of t) k v old)
       ∙ spread (is_primitive t) (at_mark (mark_of t) k) (lookup (at_mark (mark_of t)) old)
-      ∙ ap (λ b. if b then Some v else place_in shown old t) (ap (λ m. is_primitive t && is_eq (mark_cmp (mark_of t) m)) mark ∙ ties t u primitive)
+      ∙ ap (λ b. if b then Some v else place_in mark_shown old t) (ap (λ m. is_primitive t && is_eq (mark_cmp (mark_of t) m)) mark ∙ ties t u primitive)
     where
       spread : (a b : Bool) (o : Option ℕ) → (if a then cond b (Some v) o else None) ≡ (if a && b then Some v else (if a then o else None))
       spread true b o = refl
       spread false b o = refl
 
-pub has_none : {K : Type 0} (shown : K → Mark) (ks : List K) → ks ≡ [] → (t : Tree) → has shown ks t ≡ false
-has_none shown ks e t = ap (λ qs. has shown qs t) e ∙ never (is_primitive t)
+pub has_none : {K : Type 0} (mark_shown : K → Mark) (ks : List K) → ks ≡ [] → (t : Tree) → has mark_shown ks t ≡ false
+has_none mark_shown ks e t = ap (λ qs. has mark_shown qs t) e ∙ never (is_primitive t)
   where
     never : (b : Bool) → (b && false) ≡ false
     never true = refl

@@ -8,13 +8,13 @@ use Rattle.value_members.specs.Primitives.{Mark, place_in}
 use Rattle.value_members.specs.declared.primitives.Primitive.{Primitive}
 use Rattle.value_members.specs.declared.primitives.PrimitiveKey.{PrimitiveKey}
 
-abbrev pub shown : Primitive → Mark
-shown p = (p.kind, p.number, p.text.now)
+abbrev pub mark_shown : Primitive → Mark
+mark_shown p = (p.kind, p.number, p.text.now)
 
-abbrev pub key_shown : PrimitiveKey → Mark
-key_shown p = (p.kind, p.number, string_bytes p.text)
+abbrev pub key_mark_shown : PrimitiveKey → Mark
+key_mark_shown p = (p.kind, p.number, string_bytes p.text)
 
 -- Each primitive among these trees is kept with its place, and none stands twice.
 pub record IsIndex (places : List (PrimitiveKey × ℕ)) (ts : List Tree) : Type 0 where
-  pub place : (t : Tree) → place_in key_shown places t ≡ position_from (λ s. repeats s t) 0 ts
+  pub place : (t : Tree) → place_in key_mark_shown places t ≡ position_from (λ s. repeats s t) 0 ts
   pub once : are_once ts ≡ true

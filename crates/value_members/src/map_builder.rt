@@ -1,6 +1,6 @@
 // Builds a Map.
-ghost use Rattle.std.specs.Prelude.{◌≡◌, ◌<◌, true, [], map, length, slice_set, vec_len, OnOk, OnErr};
-ghost use Rattle.clone_values.specs.Limits.{HasRoom};
+ghost use Rattle.std.specs.Prelude.{◌≡◌, ◌<◌, true, [], map, length, slice_set, vec_len, IfOk, OnOk, OnErr};
+ghost use Rattle.idb_base.specs.Lists.{IsWithinLimit, FitsOneMore};
 ghost use Rattle.clone_values.specs.View.{tree_of, pair_of};
 ghost use Rattle.clone_values.specs.Sameness.{put_pair};
 ghost use Rattle.clone_values.specs.WellFormed.{are_once};
@@ -8,7 +8,8 @@ ghost use Rattle.value_members.specs.Shown.{IsIndex};
 
 use crate::places::put_new;
 use crate::primitives::{PrimitiveKey, key_of};
-use clone_values::{NoMemory, Pair, Pairs, Value};
+use clone_values::{Pair, Pairs, Value};
+use idb_base::NoMemory;
 use std::alloc::Global;
 use std::collections::BTreeMap;
 use std::marker::Model;
@@ -35,9 +36,11 @@ impl Model for MapBuilder {
 
     ghost view = { λ a. map pair_of a.entries.items };
 
+    ghost use Rattle.idb_base.specs.Lists.{IsWithinLimit};
     ghost use Rattle.value_members.specs.Shown.{IsIndex};
 
-    ghost invariant = { λ a. IsIndex a.places.entries (map (λ p. p.0) (map pair_of a.entries.items)) };
+    ghost invariant = { λ a. IsWithinLimit (map pair_of a.entries.items)
+        × IsIndex a.places.entries (map (λ p. p.0) (map pair_of a.entries.items)) };
 }
 
 impl MapBuilder {
@@ -54,14 +57,15 @@ impl MapBuilder {
 
     /// How many entries there are so far.
     pub fn len(&self) -> usize
-        ensures { result ≡ length self.now }
+        ensures count { result ≡ length self.now }
+        ensures short { IsWithinLimit self.now }
     {
         self.entries.len()
     }
 
     /// Puts an entry in, as `Pairs::put` does.
     pub fn put(&mut self, key: Value, value: Value) -> Result<(), NoMemory>
-        requires { HasRoom self.old }
+        requires { FitsOneMore self.old }
         ensures stored { OnOk result (self.new ≡ put_pair self.old (tree_of key) (tree_of value)) }
         ensures unchanged { OnErr result (self.new ≡ self.old) }
     {
@@ -73,12 +77,12 @@ impl MapBuilder {
         )
     }
 
-    /// The entries, in the order in which their keys first came. It takes no memory.
-    pub fn finish(self) -> Pairs
-        ensures value { result ≡ self }
+    /// The entries, in the order in which their keys first came.
+    pub fn finish(self) -> Result<Pairs, NoMemory>
+        ensures value { IfOk result (λ pairs. pairs ≡ self) }
         ensures once { are_once (map (λ p. p.0) self) ≡ true }
     {
-        Pairs::from_vec(self.entries)
+        Pairs::from_vec(self.alloc, self.entries)
     }
 }
 
@@ -90,7 +94,8 @@ fn put_entry(
 ) -> Result<(), NoMemory>
     requires { IsIndex places.old.entries (map (λ p. p.0) (map pair_of entries.old.items)) }
     ensures index { IsIndex places.new.entries (map (λ p. p.0) (map pair_of entries.new.items)) }
-    ensures stored { OnOk result (map pair_of entries.new.items ≡ put_pair (map pair_of entries.old.items) (pair_of entry).0 (pair_of entry).1) }
+    ensures stored { OnOk result (map pair_of entries.new.items
+        ≡ put_pair (map pair_of entries.old.items) (pair_of entry).0 (pair_of entry).1) }
     ensures unchanged { OnErr result (map pair_of entries.new.items ≡ map pair_of entries.old.items) }
 {
     match key_of(alloc, &entry.key)? {
@@ -113,7 +118,8 @@ fn put_entry(
 
 fn replace_entry(entries: &mut Vec<Pair>, place: usize, entry: Pair)
     requires { place < vec_len entries.old }
-    ensures { map pair_of entries.new.items ≡ slice_set (map pair_of entries.old.items) place (pair_of entry) }
+    ensures { map pair_of entries.new.items
+        ≡ slice_set (map pair_of entries.old.items) place (pair_of entry) }
 {
     entries[place] = entry;
 }

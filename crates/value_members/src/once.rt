@@ -5,10 +5,11 @@ ghost use Rattle.clone_values.specs.View.{tree_of};
 ghost use Rattle.clone_values.specs.Sameness.{repeats};
 ghost use Rattle.clone_values.specs.WellFormed.{are_once};
 ghost use Rattle.value_members.specs.Primitives.{has};
-ghost use Rattle.value_members.specs.Shown.{shown};
+ghost use Rattle.value_members.specs.Shown.{mark_shown};
 
 use crate::primitives::{Primitive, primitive_of};
-use clone_values::{Items, NoMemory, Pairs, Value};
+use clone_values::{Items, Pairs, Value};
+use idb_base::NoMemory;
 use std::alloc::Global;
 use std::collections::BTreeSet;
 
@@ -44,9 +45,9 @@ pub fn keys_are_once(alloc: Global, pairs: &Pairs) -> Result<bool, NoMemory>
 
 /// Notes a value that is a primitive, and answers whether it was new; one that isn't a primitive is always new.
 fn is_new<'a>(seen: &mut BTreeSet<Primitive<'a>>, value: &'a Value) -> Result<bool, NoMemory>
-    ensures new { IfOk result (λ b. b ≡ not (has shown seen.old.keys (tree_of value.now))) }
-    ensures noted { OnOk result ((t : Tree) → has shown seen.new.keys t
-        ≡ (has shown seen.old.keys t || repeats (tree_of value.now) t)) }
+    ensures new { IfOk result (λ b. b ≡ not (has mark_shown seen.old.keys (tree_of value.now))) }
+    ensures noted { OnOk result ((t : Tree) → has mark_shown seen.new.keys t
+        ≡ (has mark_shown seen.old.keys t || repeats (tree_of value.now) t)) }
 {
     match primitive_of(value) {
         Some(primitive) => Ok(seen.insert(primitive)?),

@@ -3,9 +3,10 @@ ghost use Rattle.std.specs.Prelude.{◌≡◌, true, false, MatchOption, IfOk};
 ghost use Rattle.clone_values.specs.View.{tree_of};
 ghost use Rattle.clone_values.specs.Sameness.{is_primitive};
 ghost use Rattle.value_members.specs.Primitives.{mark_of};
-ghost use Rattle.value_members.specs.Shown.{shown, key_shown};
+ghost use Rattle.value_members.specs.Shown.{mark_shown, key_mark_shown};
 
-use clone_values::{NoMemory, Value};
+use clone_values::Value;
+use idb_base::NoMemory;
 use std::alloc::Global;
 
 /// What a primitive is told apart by: its kind, its number and its text.
@@ -27,7 +28,7 @@ pub(crate) struct PrimitiveKey {
 /// The primitive that a value is, if it is one.
 pub(crate) fn primitive_of(v: &Value) -> Option<Primitive<'_>>
     ensures { MatchOption result (is_primitive (tree_of v.now) ≡ false)
-        (λ p. (is_primitive (tree_of v.now) ≡ true) × (shown p ≡ mark_of (tree_of v.now))) }
+        (λ p. (is_primitive (tree_of v.now) ≡ true) × (mark_shown p ≡ mark_of (tree_of v.now))) }
 {
     let (kind, number, text) = match v {
         Value::Undefined => (0, 0, ""),
@@ -43,7 +44,7 @@ pub(crate) fn primitive_of(v: &Value) -> Option<Primitive<'_>>
 /// The same, owned.
 pub(crate) fn key_of(alloc: Global, v: &Value) -> Result<Option<PrimitiveKey>, NoMemory>
     ensures { IfOk result (λ key. MatchOption key (is_primitive (tree_of v.now) ≡ false)
-        (λ p. (is_primitive (tree_of v.now) ≡ true) × (key_shown p ≡ mark_of (tree_of v.now)))) }
+        (λ p. (is_primitive (tree_of v.now) ≡ true) × (key_mark_shown p ≡ mark_of (tree_of v.now)))) }
 {
     match primitive_of(v) {
         Some(primitive) => Ok(Some(PrimitiveKey {

@@ -1,6 +1,6 @@
 // Builds a Set.
-ghost use Rattle.std.specs.Prelude.{◌≡◌, true, [], map, length, OnOk, OnErr};
-ghost use Rattle.clone_values.specs.Limits.{HasRoom};
+ghost use Rattle.std.specs.Prelude.{◌≡◌, true, [], map, length, IfOk, OnOk, OnErr};
+ghost use Rattle.idb_base.specs.Lists.{IsWithinLimit, FitsOneMore};
 ghost use Rattle.clone_values.specs.View.{tree_of};
 ghost use Rattle.clone_values.specs.Sameness.{put_once};
 ghost use Rattle.clone_values.specs.WellFormed.{are_once};
@@ -8,7 +8,8 @@ ghost use Rattle.value_members.specs.Shown.{IsIndex};
 
 use crate::places::put_new;
 use crate::primitives::{PrimitiveKey, key_of};
-use clone_values::{Items, NoMemory, Value};
+use clone_values::{Items, Value};
+use idb_base::NoMemory;
 use std::alloc::Global;
 use std::collections::BTreeMap;
 use std::marker::Model;
@@ -35,9 +36,11 @@ impl Model for SetBuilder {
 
     ghost view = { λ a. map tree_of a.members.items };
 
+    ghost use Rattle.idb_base.specs.Lists.{IsWithinLimit};
     ghost use Rattle.value_members.specs.Shown.{IsIndex};
 
-    ghost invariant = { λ a. IsIndex a.places.entries (map tree_of a.members.items) };
+    ghost invariant = { λ a. IsWithinLimit (map tree_of a.members.items)
+        × IsIndex a.places.entries (map tree_of a.members.items) };
 }
 
 impl SetBuilder {
@@ -54,26 +57,27 @@ impl SetBuilder {
 
     /// How many members there are so far.
     pub fn len(&self) -> usize
-        ensures { result ≡ length self.now }
+        ensures count { result ≡ length self.now }
+        ensures short { IsWithinLimit self.now }
     {
         self.members.len()
     }
 
     /// Puts a member in, as `Items::put_once` does.
     pub fn put(&mut self, value: Value) -> Result<(), NoMemory>
-        requires { HasRoom self.old }
+        requires { FitsOneMore self.old }
         ensures stored { OnOk result (self.new ≡ put_once self.old (tree_of value)) }
         ensures unchanged { OnErr result (self.new ≡ self.old) }
     {
         put_member(self.alloc, &mut self.members, &mut self.places, value)
     }
 
-    /// The members, in the order in which they first came. It takes no memory.
-    pub fn finish(self) -> Items
-        ensures value { result ≡ self }
+    /// The members, in the order in which they first came.
+    pub fn finish(self) -> Result<Items, NoMemory>
+        ensures value { IfOk result (λ items. items ≡ self) }
         ensures once { are_once self ≡ true }
     {
-        Items::from_vec(self.members)
+        Items::from_vec(self.alloc, self.members)
     }
 }
 
@@ -85,7 +89,8 @@ fn put_member(
 ) -> Result<(), NoMemory>
     requires { IsIndex places.old.entries (map tree_of members.old.items) }
     ensures index { IsIndex places.new.entries (map tree_of members.new.items) }
-    ensures stored { OnOk result (map tree_of members.new.items ≡ put_once (map tree_of members.old.items) (tree_of value)) }
+    ensures stored { OnOk result (map tree_of members.new.items
+        ≡ put_once (map tree_of members.old.items) (tree_of value)) }
     ensures unchanged { OnErr result (map tree_of members.new.items ≡ map tree_of members.old.items) }
 {
     match key_of(alloc, &value)? {

@@ -1,170 +1,174 @@
 use super::*;
 use clone_values::{Items, Pair, Pairs, Props, Text, Value};
+use idb_base::{GREATEST_LENGTH, NoMemory};
 use std::alloc::Global;
-use std::process::Abort;
-use std::test::Fail;
+use std::fmt::Write;
 
-fn text(alloc: Global, s: &str) -> Result<Value, Fail> {
-    Ok(Value::Text(Text::from_string(String::from_str(alloc, s)?)))
+/// A member to be made.
+#[derive(Clone, Copy, Drop)]
+enum Member {
+    Undefined,
+    Null,
+    Bool(bool),
+    Int(i64),
+    Text(&'static str),
+    EmptyArray,
+    Date(i64),
+    Function,
 }
 
-fn empty_array(alloc: Global) -> Value {
-    Value::Array(Items::new(alloc), Props::new(alloc))
+/// One of each primitive, and members that are none but equal.
+const DISTINCT: [Member; 15] = [
+    Member::Undefined,
+    Member::Null,
+    Member::Bool(false),
+    Member::Bool(true),
+    Member::Int(0),
+    Member::Int(1),
+    Member::Int(-1),
+    Member::Text(""),
+    Member::Text("0"),
+    Member::Text("grün"),
+    Member::EmptyArray,
+    Member::EmptyArray,
+    Member::Date(0),
+    Member::Date(0),
+    Member::Function,
+];
+
+fn value_of(alloc: Global, member: &Member) -> Result<Value, NoMemory> {
+    Ok(match member {
+        Member::Undefined => Value::Undefined,
+        Member::Null => Value::Null,
+        Member::Bool(b) => Value::Bool(*b),
+        Member::Int(n) => Value::Int(*n),
+        Member::Text(s) => {
+            if s.len() > GREATEST_LENGTH {
+                return Err(NoMemory);
+            }
+            Value::Text(Text::copy_of(alloc, s)?)
+        }
+        Member::EmptyArray => Value::Array(Items::new(alloc), Props::new(alloc)),
+        Member::Date(d) => Value::Date(*d),
+        Member::Function => Value::Function,
+    })
 }
 
-/// One of each primitive, and two members that are none but equal.
-fn distinct(alloc: Global) -> Result<Vec<Value>, Fail> {
-    Ok(vec![in alloc;
-        Value::Undefined,
-        Value::Null,
-        Value::Bool(false),
-        Value::Bool(true),
-        Value::Int(0),
-        Value::Int(1),
-        Value::Int(-1),
-        text(alloc, "")?,
-        text(alloc, "0")?,
-        text(alloc, "grün")?,
-        empty_array(alloc),
-        empty_array(alloc),
-        Value::Date(0),
-        Value::Date(0),
-        Value::Function,
-    ]?)
-}
-
-fn answers(alloc: Global, mut members: Vec<Value>, more: Option<Value>) -> Result<bool, Fail> {
-    if let Some(value) = more {
-        members.push(value)?;
-    }
-    Ok(are_once(alloc, &Items::from_vec(members))?)
-}
-
-/// Equal primitives are told, and nothing else.
-#[test]
-fn a_primitive_that_stands_twice_is_found(rt: HostRuntime) -> Result<(), Fail> {
-    let alloc = rt.alloc();
-    assert!(rt; answers(alloc, distinct(alloc)?, None)?);
-    for other in [
-        Value::Int(2),
-        Value::Date(0),
-        empty_array(alloc),
-        Value::Function,
-        text(alloc, "1")?,
-    ] {
-        assert!(rt; answers(alloc, distinct(alloc)?, Some(other))?);
-    }
-    for again in [
-        Value::Undefined,
-        Value::Null,
-        Value::Bool(false),
-        Value::Bool(true),
-        Value::Int(-1),
-        text(alloc, "")?,
-        text(alloc, "grün")?,
-    ] {
-        assert!(rt; !answers(alloc, distinct(alloc)?, Some(again))?);
-    }
-    Ok(())
-}
-
-/// The same of the keys of a Map; its values may be equal.
-#[test]
-fn a_key_that_stands_twice_is_found(rt: HostRuntime) -> Result<(), Fail> {
-    let alloc = rt.alloc();
+/// Writes whether the distinct members and one more stand once, as items and as keys.
+fn tell(alloc: Global, said: &mut String, more: &Member) -> Result<(), NoMemory> {
+    let mut items = Vec::new(alloc);
     let mut pairs = Vec::new(alloc);
-    for key in distinct(alloc)? {
-        pairs.push(Pair {
-            key,
-            value: Value::Null,
-        })?;
+    for member in &DISTINCT {
+        enlist(alloc, &mut items, &mut pairs, member)?;
     }
-    assert!(rt; keys_are_once(alloc, &Pairs::from_vec(pairs))?);
-    let pairs = vec![in alloc;
-        Pair {
-            key: Value::Int(1),
-            value: Value::Null
-        },
-        Pair {
-            key: Value::Int(1),
-            value: Value::Int(2)
-        },
-    ]?;
-    assert!(rt; !keys_are_once(alloc, &Pairs::from_vec(pairs))?);
+    enlist(alloc, &mut items, &mut pairs, more)?;
+    if items.len() > GREATEST_LENGTH || pairs.len() > GREATEST_LENGTH {
+        return Err(NoMemory);
+    }
+    let _ = said.push(if are_once(alloc, &Items::from_vec(alloc, items)?)? {
+        'o'
+    } else {
+        '-'
+    });
+    let _ = said.push(if keys_are_once(alloc, &Pairs::from_vec(alloc, pairs)?)? {
+        'o'
+    } else {
+        '-'
+    });
     Ok(())
 }
 
-fn put(builder: &mut SetBuilder, number: i64) -> Result<(), Fail> {
-    if builder.len() < 1_000_000 {
-        builder.put(Value::Int(number))?;
-    }
+fn enlist(
+    alloc: Global,
+    items: &mut Vec<Value>,
+    pairs: &mut Vec<Pair>,
+    member: &Member,
+) -> Result<(), NoMemory> {
+    items.push(value_of(alloc, member)?)?;
+    pairs.push(Pair {
+        key: value_of(alloc, member)?,
+        value: Value::Null,
+    })?;
     Ok(())
 }
 
-fn enter(builder: &mut MapBuilder, number: i64, value: Value) -> Result<(), Fail> {
-    if builder.len() < 1_000_000 {
-        builder.put(Value::Int(number), value)?;
-    }
-    Ok(())
-}
-
-fn int_at(items: &Items, place: usize) -> Option<i64> {
-    match items.at(place) {
-        Some(Value::Int(n)) => Some(*n),
-        _ => None,
-    }
-}
-
-/// A Set keeps the first place of a repeated primitive.
+/// Equal primitives are told, and nothing else; the values of a Map may be equal.
 #[test]
-fn a_set_is_built(rt: HostRuntime) -> Result<(), Fail> {
-    let mut builder = SetBuilder::new(rt.alloc());
-    for number in [3, 1, 3, 2, 1] {
-        put(&mut builder, number)?;
+fn a_primitive_that_stands_twice_is_found(rt: HostRuntime) {
+    let more = [
+        Member::Int(2),
+        Member::Date(0),
+        Member::EmptyArray,
+        Member::Function,
+        Member::Text("1"),
+        Member::Undefined,
+        Member::Null,
+        Member::Bool(false),
+        Member::Bool(true),
+        Member::Int(-1),
+        Member::Text(""),
+        Member::Text("grün"),
+    ];
+    let mut said = String::new(rt.alloc());
+    let mut is_done = true;
+    for member in &more {
+        is_done = is_done && tell(rt.alloc(), &mut said, member).is_ok();
     }
-    let members = builder.finish();
-    assert_eq!(rt; members.len(), 3);
-    assert_eq!(rt;
-        (
-            int_at(&members, 0),
-            int_at(&members, 1),
-            int_at(&members, 2)
-        ),
-        (Some(3), Some(1), Some(2))
-    );
+    assert!(rt; is_done && said.as_str() == "oooooooooo--------------");
+}
+
+/// Puts a number into both builders.
+fn put(set: &mut SetBuilder, map: &mut MapBuilder, n: i64, brings: i64) -> Result<(), NoMemory> {
+    if set.len() < GREATEST_LENGTH && map.len() < GREATEST_LENGTH {
+        set.put(Value::Int(n))?;
+        map.put(Value::Int(n), Value::Int(brings))?;
+    }
     Ok(())
 }
 
-/// A Map keeps the first place of a repeated key, with the last value.
-#[test]
-fn a_map_is_built(rt: HostRuntime) -> Result<(), Fail> {
-    let mut builder = MapBuilder::new(rt.alloc());
-    for (number, text) in [(1, "a"), (2, "b"), (1, "c")] {
-        enter(&mut builder, number, self::text(rt.alloc(), text)?)?;
+fn show(said: &mut String, set: SetBuilder, map: MapBuilder) -> Result<(), NoMemory> {
+    let (members, entries) = (set.finish()?, map.finish()?);
+    for place in 0..members.len() {
+        if let Some(Value::Int(n)) = members.at(place) {
+            let _ = write!(said, "{n},");
+        }
     }
-    let entries = builder.finish();
-    assert_eq!(rt; entries.len(), 2);
-    for (place, (number, text)) in [(1, "c"), (2, "b")].into_iter().enumerate() {
-        assert!(rt;
-            matches!(entries.at(place), Some(Pair { key: Value::Int(n), value: Value::Text(s) }) if *n == number && s.as_str() == text)
-        );
+    for place in 0..entries.len() {
+        if let Some(
+            Pair {
+                key: Value::Int(n),
+                value: Value::Int(brings),
+            },
+        ) = entries.at(place)
+        {
+            let _ = write!(said, " {n}:{brings}");
+        }
     }
     Ok(())
+}
+
+/// A Set keeps the first place of a repeated primitive, and so does a Map of a key, with the last value.
+#[test]
+fn sets_and_maps_are_built(rt: HostRuntime) {
+    let mut set = SetBuilder::new(rt.alloc());
+    let mut map = MapBuilder::new(rt.alloc());
+    let mut said = String::new(rt.alloc());
+    let mut is_done = true;
+    for (n, brings) in [(3, 30), (1, 10), (3, 31), (2, 20), (1, 11)] {
+        is_done = is_done && put(&mut set, &mut map, n, brings).is_ok();
+    }
+    is_done = show(&mut said, set, map).is_ok() && is_done;
+    assert!(rt; is_done && said.as_str() == "3,1,2, 3:31 1:11 2:20");
 }
 
 /// Many members take the time of a sort: a way that compared each with each would not end in a test's time.
 #[test]
-fn many_members_take_the_time_of_a_sort(rt: HostRuntime) -> Result<(), Fail> {
-    let alloc = rt.alloc();
-    let mut members = Vec::new(alloc);
-    let mut set = SetBuilder::new(alloc);
-    let mut map = MapBuilder::new(alloc);
+fn many_members_take_the_time_of_a_sort(rt: HostRuntime) {
+    let mut set = SetBuilder::new(rt.alloc());
+    let mut map = MapBuilder::new(rt.alloc());
+    let mut is_done = true;
     for n in 0..50_000i64 {
-        members.push(Value::Int(n))?;
-        put(&mut set, n)?;
-        enter(&mut map, n / 2, Value::Null)?;
+        is_done = is_done && put(&mut set, &mut map, n / 2, n).is_ok();
     }
-    assert!(rt; answers(alloc, members, None)?);
-    assert_eq!(rt; (set.finish().len(), map.finish().len()), (50_000, 25_000));
-    Ok(())
+    assert!(rt; is_done && set.len() == 25_000 && map.len() == 25_000);
 }

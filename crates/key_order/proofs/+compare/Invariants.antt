@@ -4,8 +4,8 @@ use Rattle.clone_values.specs.KeyTree.{key_trees_of, key_size, keys_size}
 use Rattle.key_order.specs.KeyOrder.{keys_cmp}
 use Rattle.key_order.proofs.+compare.Given as goal
 
-abbrev pub decreases-compare : goal.decreases-compare
-decreases-compare l = key_size (key_tree_of l.a.now)
+abbrev pub decreases-compare_any : goal.decreases-compare_any
+decreases-compare_any l = key_size (key_tree_of l.a.now)
 
 abbrev pub decreases-compare_lists : goal.decreases-compare_lists
 decreases-compare_lists l = keys_size (key_trees_of l.a.now)

@@ -1,9 +1,9 @@
 use Rattle.std.proofs.Common.{◌≡◌, drop}
 use Rattle.std.specs.List.{list_all}
 use Rattle.clone_values.specs.Names.{names_of}
-use Rattle.clone_values.specs.WellFormed.{is_within_limit}
+use Rattle.clone_values.specs.WellFormed.{is_text}
 use Rattle.clone_values.proofs.checking.are_properties.Given as goal
 
--- the names so far have a stored size
+-- the names so far are texts of a stored size
 abbrev pub invariant-loop-place : goal.invariant-loop-place
-invariant-loop-place l = list_all is_within_limit (names_of (drop l.place l.props)) ≡ list_all is_within_limit (names_of l.props)
+invariant-loop-place l = list_all is_text (names_of (drop l.place l.props)) ≡ list_all is_text (names_of l.props)

@@ -1,7 +1,7 @@
 use Rattle.std.proofs.Common.{◌≡◌, ℕ, ◌+◌, List, [], length, get_or, drop, sym, ◌∙◌, subst, arith}
 use Rattle.disk_trait.specs.Areas.{area_of}
 use Rattle.gate_areas.specs.Scan.{GateIs, GateFits}
-use Rattle.gate_areas.proofs.Quiet.{untouched_yet, untouched_twice}
+use Rattle.disk_trait.proofs.Laws.{untouched_yet, untouched_twice}
 use Rattle.gate_areas.proofs.Walks.{to_last, front_on, broken_fault}
 use Rattle.gate_areas.proofs.scan.scan_batches.Goals as goal
 
@@ -10,7 +10,7 @@ batches-init g c = record {
   headed = omega arith;
   within = c.requires.room;
   never_falls = omega arith;
-  untouched = untouched_yet _ _ _ _ _ c.args.disk.now (g.met.D.Disk.only_now c.args.disk.now);
+  untouched = untouched_yet _;
   front = λ areas told. ([], c.requires.head areas told);
 }
 
@@ -45,7 +45,7 @@ batches-preserved g c = record {
   headed = omega (arith, c.batches.invariant.headed);
   within = let fits = subst (λ gate. GateFits gate c.batches.place c.args.end) c.in-Open.is c.in_ok-read_gate.ensures.fits in omega (arith, fits);
   never_falls = omega (arith, c.batches.invariant.never_falls, c.read_gate.ensures.cause.never_falls);
-  untouched = untouched_twice _ _ _ _ _ _ _ _ c.batches.invariant.untouched c.read_gate.ensures.untouched;
+  untouched = untouched_twice c.batches.invariant.untouched c.read_gate.ensures.untouched;
   front = λ areas told_after.
       let told = sym c.read_gate.ensures.untouched.same_reads ∙ told_after in
       let bytes = area_of c.args.area areas in

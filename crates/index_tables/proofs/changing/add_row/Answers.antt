@@ -1,10 +1,10 @@
 use Rattle.std.proofs.Common.{◌∙◌, ap}
 use Rattle.index_tables.specs.View.{row_set}
-use Rattle.index_tables.proofs.TableRows.{is_lacked, set_of_put}
+use Rattle.index_tables.proofs.TableRows.{set_of_put, set_with_present}
 use Rattle.index_tables.proofs.changing.add_row.Goals as goal
 
-pub insert-requires-clause-absent : goal.insert-requires-clause-absent
-insert-requires-clause-absent g c = is_lacked _ c.args.row c.len.ensures.sorted c.requires.absent
+pub returns-in-Ok-clause-rows : goal.returns-in-Ok-clause-rows
+returns-in-Ok-clause-rows g c = set_with_present _ _ c.args.row (g.met.R.OrderedTable.rises c.args.table.now) c.in-Ok.ensures.found
 
-pub returns-clause-rows : goal.returns-clause-rows
-returns-clause-rows g c = ap row_set c.insert.ensures.entries ∙ set_of_put _ c.args.row _ c.len.ensures.sorted
+pub returns-in-Err-clause-rows : goal.returns-in-Err-clause-rows
+returns-in-Err-clause-rows g c = ap row_set c.insert_at.ensures.entries ∙ set_of_put _ c.args.row _ (g.met.R.OrderedTable.rises c.args.table.now)

@@ -12,5 +12,5 @@ returns-then-has_key g c = found_first (has_key (row_set (g.R.OrderedTable.entri
 pub loop-place-preserved : goal.loop-place-preserved
 loop-place-preserved g c = elim c.match-at.branch [
   | in-Some+else-has_key w ↦ not_yet (has_key (row_set (g.R.OrderedTable.entries c.args.table.now))) _ _ _ c.loop-place.invariant (sym w.in-Some.ensures.item) (sym w.has_key.ensures ∙ w.if-has_key.false)
-  | in_default w ↦ absurd (omega (arith, past_end c.args.keys.now c.loop-place.place w.in_default.ensures.item, c.loop-place-test.true, c.len-place-end.ensures))
+  | in_default w ↦ absurd (omega (arith, past_end c.args.keys.now c.loop-place.place w.in_default.ensures.item, c.loop-place-test.true, c.len-place-end.ensures.count))
 ]

@@ -1,27 +1,16 @@
-use Rattle.std.proofs.Common.{arith, Some, ◌+◌, ◌-◌, ◌/◌}
+use Rattle.std.proofs.Common.{arith, Some, ◌-◌}
 use Rattle.clone_values.specs.View.{key_tree_of}
 use Rattle.idb_keys.specs.KeyRange.{bound_at}
-use Rattle.sorted_table.proofs.Costs.{taken}
-use Rattle.index_tables.proofs.Halving.{split_below, split_above}
+use Rattle.sorted_table.proofs.Laws.{one_more}
+use Rattle.index_tables.proofs.Halving.{unsplit, split_below, split_from}
 use Rattle.index_tables.proofs.Meeting.{rows_rise}
 use Rattle.index_tables.proofs.searching.first_meeting.Goals as goal
 
-pub loop-low-preserved-then-meets_at : goal.loop-low-preserved-then-meets_at
-loop-low-preserved-then-meets_at g c =
-    let fewer = taken _ c.loop-low.steps _ _ _ (c.loop-low.low + (c.loop-low.high - c.loop-low.low) / 2 - c.loop-low.low) c.loop-low.invariant.counted c.meets_at.ensures.counted c.loop-low.invariant.parts (omega (arith, c.loop-low-test.true)) (omega arith) in
-    record {
-      split = split_below _ _ c.loop-low.low _ c.loop-low.high (rows_rise (Some (bound_at (key_tree_of c.args.lower.now) c.args.is_open)) _ c.len-high.ensures.sorted) c.loop-low.invariant.split (omega arith) (omega (arith, c.loop-low-test.true)) c.meets_at.result c.meets_at.ensures.value c.if-meets_at.true;
-      counted = omega (arith, c.meets_at.ensures.counted, c.loop-low.invariant.counted);
-      parts = fewer.0;
-      cost = fewer.1;
-    }
+pub first_before-requires : goal.first_before-requires
+first_before-requires g c = split_below _ _ 0 _ c.count_in-count.result (rows_rise (Some (bound_at (key_tree_of c.args.lower.now) c.args.is_open)) _) (unsplit _ _ _ c.count_in-count.ensures.listed) (omega arith) (omega (arith, c.if-count-eq0.false)) c.meets_at.result c.meets_at.ensures.value c.if-meets_at.true
 
-pub loop-low-preserved : goal.loop-low-preserved
-loop-low-preserved g c =
-    let fewer = taken _ c.loop-low.steps _ _ _ (c.loop-low.high - (c.loop-low.low + (c.loop-low.high - c.loop-low.low) / 2 + 1)) c.loop-low.invariant.counted c.meets_at.ensures.counted c.loop-low.invariant.parts (omega (arith, c.loop-low-test.true)) (omega arith) in
-    record {
-      split = split_above _ _ c.loop-low.low _ c.loop-low.high (rows_rise (Some (bound_at (key_tree_of c.args.lower.now) c.args.is_open)) _ c.len-high.ensures.sorted) c.loop-low.invariant.split (omega arith) (omega (arith, c.loop-low-test.true)) c.meets_at.result c.meets_at.ensures.value c.if-meets_at.false;
-      counted = omega (arith, c.meets_at.ensures.counted, c.loop-low.invariant.counted);
-      parts = fewer.0;
-      cost = fewer.1;
-    }
+pub returns-then-meets_at-clause-cost : goal.returns-then-meets_at-clause-cost
+returns-then-meets_at-clause-cost g c = rw (← c.count_in-count.ensures.value) (one_more _ _ _ _ c.meets_at.ensures.counted c.first_before.ensures.counted c.first_before.ensures.cost (omega (arith, c.if-count-eq0.false)))
+
+pub returns-else-meets_at-clause-split : goal.returns-else-meets_at-clause-split
+returns-else-meets_at-clause-split g c = split_from _ _ (c.count_in-count.result - 1) _ (rows_rise (Some (bound_at (key_tree_of c.args.lower.now) c.args.is_open)) _) c.count_in-count.ensures.listed (omega (arith, c.if-count-eq0.false)) c.meets_at.result c.meets_at.ensures.value c.if-meets_at.false

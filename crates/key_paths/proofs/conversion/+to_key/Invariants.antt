@@ -1,4 +1,4 @@
-use Rattle.std.proofs.Common.{◌≡◌, drop, map}
+use Rattle.std.proofs.Common.{◌≡◌, ◌≤◌, length, drop, map}
 use Rattle.clone_values.specs.Tree.{tree_size, trees_size, trees_of}
 use Rattle.clone_values.specs.View.{tree_of, key_tree_of}
 use Rattle.key_paths.specs.Conversion.{keys_within}
@@ -11,6 +11,9 @@ decreases-key_within l = tree_size (tree_of l.v.now)
 abbrev pub decreases-keys_within : goal.decreases-keys_within
 decreases-keys_within l = trees_size (trees_of l.items.now)
 
--- the keys so far in front of what the rest gives
+-- the keys so far, one an item, in front of what the rest gives
 abbrev pub invariant-keys_within-loop-place : goal.invariant-keys_within-loop-place
-invariant-keys_within-loop-place l = onto (map key_tree_of l.keys.items) (keys_within (trees_of (drop l.place l.items))) ≡ keys_within (trees_of l.items)
+invariant-keys_within-loop-place l = record {
+  so_far : onto (map key_tree_of l.keys.items) (keys_within (trees_of (drop l.place l.items))) ≡ keys_within (trees_of l.items);
+  count : length l.keys.items ≤ l.place;
+}

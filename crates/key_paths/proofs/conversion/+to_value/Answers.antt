@@ -6,4 +6,4 @@ use Rattle.key_paths.proofs.conversion.+to_value.Goals as goal
 pub values_of-returns : goal.values_of-returns
 values_of-returns t c =
     let past : length c.args.keys.now ≤ c.loop-place.place = omega arith in
-    rw c.from_vec.ensures (values_done _ _ _ (drop_all _ _ past) c.loop-place.invariant)
+    rw c.in_ok-from_vec.ensures (values_done _ _ _ (drop_all _ _ past) c.loop-place.invariant.so_far)

@@ -2,7 +2,7 @@ use Rattle.std.proofs.Common.{nat_lt, [], Some, None, ◌∙◌, ap, lit<}
 use Rattle.std.proofs.lemmas.Str.Pattern.{split_once_first}
 use Rattle.clone_values.specs.View.{tree_of}
 use Rattle.path_grammar.specs.KeyPath.{parts_of}
-use Rattle.path_grammar.proofs.PathParts.{one_part}
+use Rattle.path_grammar.proofs.Laws.{one_part}
 use Rattle.key_paths.proofs.Walks.{cut_parts}
 use Rattle.key_paths.proofs.PathEnds.{no_properties, room_step}
 use Rattle.key_paths.proofs.injection.+has_room_along.Goals as goal

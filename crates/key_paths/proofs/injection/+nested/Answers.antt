@@ -2,7 +2,7 @@ use Rattle.std.proofs.Common.{◌≡◌, IfOk, sym, ◌∙◌, ap, subst, lit<}
 use Rattle.std.proofs.lemmas.Str.Pattern.{split_once_first}
 use Rattle.clone_values.specs.Tree.{object, no_members, member_more}
 use Rattle.clone_values.specs.View.{tree_of}
-use Rattle.path_grammar.proofs.PathParts.{one_part}
+use Rattle.path_grammar.proofs.Laws.{one_part}
 use Rattle.key_paths.specs.Injection.{placed}
 use Rattle.key_paths.proofs.Walks.{cut_parts}
 use Rattle.key_paths.proofs.injection.+nested.Goals as goal

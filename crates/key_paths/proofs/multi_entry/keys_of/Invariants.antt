@@ -1,4 +1,4 @@
-use Rattle.std.proofs.Common.{◌≡◌, drop, map}
+use Rattle.std.proofs.Common.{◌≡◌, ◌≤◌, length, drop, map}
 use Rattle.clone_values.specs.View.{key_tree_of}
 use Rattle.key_paths.specs.Conversion.{keys_of}
 use Rattle.key_paths.specs.KeysSeen.{HasExactly}
@@ -9,5 +9,6 @@ use Rattle.key_paths.proofs.multi_entry.keys_of.Given as goal
 abbrev pub invariant-loop-place : goal.invariant-loop-place
 invariant-loop-place l = record {
   adds : Adds (map key_tree_of l.keys.items) (drop l.place l.items) ≡ keys_of l.items;
+  count : length l.keys.items ≤ l.place;
   seen : HasExactly l.seen (map key_tree_of l.keys.items);
 }

@@ -1,32 +1,14 @@
 use Rattle.std.proofs.Common.{sym, arith}
-use Rattle.sorted_table.proofs.Rising.{above_read, below_read, has_read}
-use Rattle.sorted_table.proofs.Costs.{taken}
+use Rattle.sorted_table.proofs.Rising.{has_read}
+use Rattle.sorted_table.proofs.Costs.{one_more}
+use Rattle.sorted_table.proofs.Values.{past_last}
 use Rattle.sorted_table.proofs.halving.place_in.Goals as goal
 
-pub loop-low-preserved-in-Less : goal.loop-low-preserved-in-Less
-loop-low-preserved-in-Less g c = record {
-  ordered = omega arith;
-  within = omega arith;
-  passed = c.loop-low.invariant.passed;
-  ahead = above_read g.met.K.Ordered.total _ _ _ _ c.requires (omega arith) (sym c.in-Less.ensures.value);
-  counted = omega arith;
-  parts = (taken _ _ _ _ _ _ c.loop-low.invariant.counted c.compared.ensures.counted c.loop-low.invariant.parts (omega arith) (omega arith)).0;
-  cost = (taken _ _ _ _ _ 0 c.loop-low.invariant.counted c.compared.ensures.counted c.loop-low.invariant.parts (omega arith) (omega arith)).1;
-}
+pub returns-in-Less-clause-cost : goal.returns-in-Less-clause-cost
+returns-in-Less-clause-cost g c = one_more _ _ _ _ c.compared.ensures.counted c.place_before.ensures.counted c.place_before.ensures.cost (omega arith)
 
-pub loop-low-preserved : goal.loop-low-preserved
-loop-low-preserved g c = record {
-  ordered = omega arith;
-  within = omega arith;
-  passed = below_read g.met.K.Ordered.total _ _ _ _ c.requires (omega arith) (sym c.in-Greater.ensures.value);
-  ahead = c.loop-low.invariant.ahead;
-  counted = omega arith;
-  parts = (taken _ _ _ _ _ _ c.loop-low.invariant.counted c.compared.ensures.counted c.loop-low.invariant.parts (omega arith) (omega arith)).0;
-  cost = (taken _ _ _ _ _ 0 c.loop-low.invariant.counted c.compared.ensures.counted c.loop-low.invariant.parts (omega arith) (omega arith)).1;
-}
+pub returns-in-Greater-clause-absent : goal.returns-in-Greater-clause-absent
+returns-in-Greater-clause-absent g c = past_last g.met.K.Ordered.total _ _ _ c.requires (omega arith) (sym c.in-Greater.ensures.value)
 
 pub returns-in-Equal-clause-found : goal.returns-in-Equal-clause-found
 returns-in-Equal-clause-found g c = has_read g.met.K.Ordered.total g.met.K.Ordered.same _ _ _ _ c.requires (omega arith) (sym c.in-Equal.ensures.value)
-
-pub returns-in-Equal-clause-cost : goal.returns-in-Equal-clause-cost
-returns-in-Equal-clause-cost g c = (taken _ _ _ _ _ 0 c.loop-low.invariant.counted c.compared.ensures.counted c.loop-low.invariant.parts (omega arith) (omega arith)).1

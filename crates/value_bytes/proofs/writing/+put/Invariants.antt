@@ -1,10 +1,8 @@
-use Rattle.std.proofs.Common.{◌≡◌, ◌+◌, ◌*◌, ◌++◌, true, length, drop}
+use Rattle.std.proofs.Common.{◌≡◌, ◌+◌, ◌*◌, ◌++◌, drop}
 use Rattle.clone_values.specs.Tree.{tree_size, trees_size, members_size, pairs_size, trees_of, members_of, pairs_of}
 use Rattle.clone_values.specs.View.{tree_of}
-use Rattle.clone_values.specs.WellFormed.{are_values}
-use Rattle.value_bytes.specs.Spelling.{count_bytes, items_spelling, ItemsAreUnicode}
+use Rattle.value_bytes.specs.Spelling.{items_spelling, members_spelling, pairs_spelling, items_field, members_field, pairs_field}
 use Rattle.value_bytes.specs.Writing.{BeginsWith}
-use Rattle.value_bytes.proofs.Puts.{PropsPut, PairsPut}
 use Rattle.value_bytes.proofs.writing.+put.Given as goal
 
 abbrev pub decreases-put_value : goal.decreases-put_value
@@ -25,17 +23,22 @@ decreases-put_prop l = 2 * tree_size (tree_of l.prop.now.value) + 1
 abbrev pub decreases-put_pair : goal.decreases-put_pair
 decreases-put_pair l = 2 * (tree_size (tree_of l.pair.now.key) + tree_size (tree_of l.pair.now.value)) + 1
 
--- what was put, and what is still put, is the whole spelling
+-- ---- what was put, and what is still put, is the whole spelling
+
 abbrev pub invariant-put_items-loop-place : goal.invariant-put_items-loop-place
 invariant-put_items-loop-place l = record {
-  written : l.out.items ++ items_spelling (trees_of (drop l.place l.items)) ≡ l.fn.out.items ++ (count_bytes (length l.items) ++ items_spelling (trees_of l.items));
-  formed : are_values (trees_of (drop l.place l.items)) ≡ true;
-  unicode : ItemsAreUnicode (trees_of (drop l.place l.items)) → ItemsAreUnicode (trees_of l.items);
+  written : l.out.items ++ items_spelling (trees_of (drop l.place l.items)) ≡ l.fn.out.items ++ items_field (trees_of l.items);
   front : BeginsWith l.fn.out.items l.out.items;
 }
 
 abbrev pub invariant-put_props-loop-place : goal.invariant-put_props-loop-place
-invariant-put_props-loop-place l = PropsPut l.fn.out.items l.out.items l.props l.place
+invariant-put_props-loop-place l = record {
+  written : l.out.items ++ members_spelling (members_of (drop l.place l.props)) ≡ l.fn.out.items ++ members_field (members_of l.props);
+  front : BeginsWith l.fn.out.items l.out.items;
+}
 
 abbrev pub invariant-put_pairs-loop-place : goal.invariant-put_pairs-loop-place
-invariant-put_pairs-loop-place l = PairsPut l.fn.out.items l.out.items l.pairs l.place
+invariant-put_pairs-loop-place l = record {
+  written : l.out.items ++ pairs_spelling (pairs_of (drop l.place l.pairs)) ≡ l.fn.out.items ++ pairs_field (pairs_of l.pairs);
+  front : BeginsWith l.fn.out.items l.out.items;
+}

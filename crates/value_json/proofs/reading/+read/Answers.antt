@@ -5,24 +5,24 @@ use Rattle.serde_json.specs.View.{view}
 use Rattle.serde_json.proofs.Views.{Entry, view-Array}
 use Rattle.clone_values.specs.Names.{set_member}
 use Rattle.clone_values.specs.View.{tree_of}
+use Rattle.clone_values.specs.WellFormed.{is_text}
 use Rattle.value_json.specs.Marks.{is_full_array}
 use Rattle.value_json.specs.Reading.{trees_in, pairs_in}
 use Rattle.value_json.proofs.Documents.{all_read, read_one, set_one, two_members, two, not_two}
-use Rattle.value_json.proofs.Lengths.{set_member_longer}
+use Rattle.clone_values.proofs.Laws.{set_longer}
 use Rattle.value_json.proofs.reading.+read.Goals as goal
 use Rattle.value_json.proofs.reading.+read.Goals.{read_pair-in_default-as_slice-via-then-as_slice-lt2, read_pair-in_default-as_slice-via-else-as_slice-lt2+else-this-lt3}
 
-pub read_items-loop-json-preserved : goal.read_items-loop-json-preserved
-read_items-loop-json-preserved t c =
+pub read_values-loop-json-preserved : goal.read_values-loop-json-preserved
+read_values-loop-json-preserved t c =
     let l = c.loop-json in
     let xs = c.deref-json-items.result.now in
     let x = c.json-item.result in
     let here : drop l.json-index xs ≡ x ∷ drop (l.json-index + 1) xs = drop_more xs l.json-index x (omega arith) ∙ ap (λ y. y ∷ drop (l.json-index + 1) xs) (sym c.json-item.is) in
     (omega arith, read_one xs l.json-index x _ _ _ here c.in_ok-read.ensures c.in_ok-push.ensures.items l.invariant.1)
 
-pub read_items-returns-clause-read : goal.read_items-returns-clause-read
-read_items-returns-clause-read t c =
-    all_read trees_in refl _ _ c.loop-json.json-index (map tree_of c.loop-json.items.items) c.deref-json-items.ensures.value (omega arith) (omega arith) c.loop-json.invariant.1 ∙ ap Some (sym c.from_vec.ensures)
+pub read_values-returns-clause-read : goal.read_values-returns-clause-read
+read_values-returns-clause-read t c = all_read trees_in refl _ _ c.loop-json.json-index _ c.deref-json-items.ensures.value (omega arith) (omega arith) c.loop-json.invariant.1
 
 pub read_pairs-returns-clause-read : goal.read_pairs-returns-clause-read
 read_pairs-returns-clause-read t c = all_read pairs_in refl _ _ c.loop-json.json-index _ c.deref-json-items.ensures.value (omega arith) (omega arith) c.loop-json.invariant.1
@@ -32,10 +32,11 @@ read_members-loop-name-preserved t c =
     let l = c.loop-name in
     let e : Entry = (c.in-Some.name.now, c.in-Some.json.now) in
     let name = string_bytes c.in-Some.name.now in
-    let stored : c.set.new.self ≡ set_member l.props name (tree_of c.in_ok-value.value) = c.in_ok-set.ensures.stored ∙ ap (λ n. set_member l.props n (tree_of c.in_ok-value.value)) (c.in_ok-copy_of.ensures ∙ c.as_str.ensures.value) in
-    let steps = c.in-Some.ensures.steps in (
-      omega (arith, ap length steps, ap length stored, set_member_longer l.props name (tree_of c.in_ok-value.value), l.invariant.0),
-      set_one l.name-iterator c.next.new.self e l.props _ _ steps (omega arith) c.in_ok-value.ensures stored ∙ l.invariant.1,
+    let stored : c.set.new.self ≡ set_member l.props name (tree_of c.in_ok-value.value) = c.in_ok-set.ensures.stored ∙ ap (λ n. set_member l.props n (tree_of c.in_ok-value.value)) (c.in_ok-copy_of.ensures ∙ c.as_str-text.ensures.value) in
+    let steps = c.in-Some.ensures.steps in
+    let short : is_text name ≡ true = search rules in (
+      omega (arith, ap length steps, ap length stored, set_longer l.props name (tree_of c.in_ok-value.value), l.invariant.0),
+      set_one l.name-iterator c.next.new.self e l.props _ _ steps short c.in_ok-value.ensures stored ∙ l.invariant.1,
     )
 
 pub read_pair-returns-in_ok-value-in-len2 : goal.read_pair-returns-in_ok-value-in-len2

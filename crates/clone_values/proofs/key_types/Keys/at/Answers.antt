@@ -3,4 +3,4 @@ use Rattle.clone_values.proofs.Places.{stands_from_got}
 use Rattle.clone_values.proofs.key_types.Keys.at.Goals as goal
 
 pub returns-clause-stands : goal.returns-clause-stands
-returns-clause-stands c = stands_from_got key_tree_of _ _ _ _ _ c.self.view_is c.deref.ensures.value c.get.ensures.lookup.3 c.get.ensures.lookup.1
+returns-clause-stands c = stands_from_got key_tree_of _ _ _ _ _ c.self.view_is c.slice.ensures c.get.ensures.lookup.3 c.get.ensures.lookup.1

@@ -1,4 +1,4 @@
-use Rattle.clone_values.proofs.Places.{stands_from_got}
+use Rattle.clone_values.proofs.Laws.{stands_from_got}
 use Rattle.index_tables.specs.View.{row_of}
 use Rattle.index_tables.proofs.rows.Rows.at.Goals as goal
 

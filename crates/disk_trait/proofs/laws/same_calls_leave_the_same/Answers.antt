@@ -1,5 +1,0 @@
-use Rattle.disk_trait.proofs.SinceSync.{same_since_sync}
-use Rattle.disk_trait.proofs.laws.same_calls_leave_the_same.Goals as goal
-
-pub returns : goal.returns
-returns c = same_since_sync

@@ -1,5 +1,0 @@
-use Rattle.disk_trait.proofs.SinceSync.{pinned_by_sync}
-use Rattle.disk_trait.proofs.laws.sync_pins.Goals as goal
-
-pub returns : goal.returns
-returns c = pinned_by_sync

@@ -1,6 +1,0 @@
-use Rattle.std.proofs.Common.{◌≡◌, take}
-use Rattle.idb_schema.proofs.definition_lists.IndexInfos.copy.Given as goal
-
--- the copies so far
-abbrev pub invariant-loop-item : goal.invariant-loop-item
-invariant-loop-item l = l.copies.items ≡ take l.item-index l.item-items

@@ -1,4 +1,0 @@
-pub mod Taken
-pub mod Rows
-pub mod Unique
-pub mod UniqueLaws

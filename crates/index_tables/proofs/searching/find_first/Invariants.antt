@@ -1,0 +1,4 @@
+use Rattle.index_tables.proofs.searching.find_first.Given as goal
+
+abbrev pub ghosts-first_by : goal.ghosts-first_by
+ghosts-first_by g a = record { name = a.blank.name; parts = a.blank.parts }

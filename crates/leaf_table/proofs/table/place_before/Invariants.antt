@@ -1,0 +1,19 @@
+use Rattle.std.proofs.Common.{◌+◌, ◌-◌, ◌*◌, ◌^◌, ◌≤◌, take, drop}
+use Rattle.sorted_table.specs.Tables.{AreBelow, AreAbove}
+use Rattle.leaf_table.specs.Leaves.{joined}
+use Rattle.leaf_table.proofs.table.place_before.Given as goal
+
+-- the entries before `low` are below the key, and those from `end` on above it; each step halves what lies between
+abbrev pub invariant-loop-low : goal.invariant-loop-low
+invariant-loop-low g l = record {
+  ordered : l.low ≤ l.end;
+  within : l.end ≤ l.fn.high;
+  passed : AreBelow g.K.Ordered.order (take l.low (joined l.pile.leaves)) l.key;
+  ahead : AreAbove g.K.Ordered.order (drop l.end (joined l.pile.leaves)) l.key;
+  counted : l.fn.steps ≤ l.steps;
+  parts : 2 ^ (l.steps - l.fn.steps) * (l.end - l.low) ≤ l.fn.high;
+  cost : 2 ^ (l.steps - l.fn.steps) ≤ 2 * l.fn.high + 1;
+}
+
+abbrev pub decreases-loop-low : goal.decreases-loop-low
+decreases-loop-low g l = l.end - l.low

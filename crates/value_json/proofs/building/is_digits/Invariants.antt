@@ -1,8 +1,0 @@
-use Rattle.std.proofs.Common.{◌≡◌, drop}
-use Rattle.std.specs.List.{list_all}
-use Rattle.clone_values.specs.WellFormed.{is_digit}
-use Rattle.value_json.proofs.building.is_digits.Given as goal
-
--- the bytes so far are digits
-abbrev pub invariant-loop-b : goal.invariant-loop-b
-invariant-loop-b l = list_all is_digit (drop l.b-index l.name) ≡ list_all is_digit l.name

@@ -1,0 +1,138 @@
+#!/usr/bin/env python3
+"""Writes docs/DEFINITIONS.md from the files of specs/: each file's head comment, which lists its words, and the comment
+above each further word that a clause of src/ cites. With --check it writes nothing, and ends with 1 where the page is
+stale. Run it from any folder."""
+import os
+import re
+import sys
+
+TOP = os.path.dirname(os.path.dirname(os.path.realpath(__file__)))
+PAGE = f"{TOP}/docs/DEFINITIONS.md"
+WORD = re.compile(r"^(?:(?:abbrev |unfoldable )?pub (?:record |data )?|  (?:(?:abbrev |unfoldable )pub |pub (?:record |data )))([A-Za-z][A-Za-z0-9_]*)\b")
+HEAD = """# Definitions
+
+What the clauses of the crates cite, with its module below `crates/NAME/specs`. Contracts see an unsigned number as a natural
+number, a signed one as an integer, and a text as the list of its UTF-8 bytes. Words that stand in no table are the standard
+library's. `docs/definitions.py` writes this page.
+"""
+
+
+def lines_of(path):
+    with open(path, encoding="utf-8") as it:
+        return it.read().split("\n")
+
+
+def crates():
+    """The crates in the order of crates.txt, those that others stand on first."""
+    below = {}
+    for line in lines_of(f"{TOP}/crates.txt"):
+        line = line.split("#")[0]
+        if ":" in line:
+            name, rest = line.split(":", 1)
+            below[name.split()[0]] = rest.split()
+    done = []
+
+    def visit(name):
+        if name in below and name not in done:
+            for it in below[name]:
+                visit(it)
+            done.append(name)
+
+    for name in below:
+        visit(name)
+    return done
+
+
+def modules(crate):
+    folder = f"{TOP}/crates/{crate}/specs"
+    names = sorted(os.listdir(folder)) if os.path.isdir(folder) else []
+    return [it[:-5] for it in names if it.endswith(".antt") and it != "Lib.antt"]
+
+
+def cited():
+    """The words that the public clauses of all crates cite."""
+    words = set()
+    for folder, _, names in os.walk(f"{TOP}/crates"):
+        for name in names:
+            if "/src" in folder and "/out" not in folder and name.endswith(".rt") and not name.endswith("tests.rt"):
+                is_public = False
+                for line in lines_of(f"{folder}/{name}"):
+                    if re.match(r"\s*pub (fn|struct|enum|trait)\b", line):
+                        is_public = True
+                    elif re.match(r"\s*(fn|pub\(crate\) fn|struct|enum|trait)\b", line):
+                        is_public = False
+                    if is_public and re.match(r"\s*(ensures|requires|→|×|\()", line):
+                        words |= set(re.findall(r"[A-Za-z][A-Za-z0-9_]*", line))
+    return words
+
+
+def read(path):
+    """The prose of the file's head, the rows that it lists, and the comment above each public word."""
+    lines = lines_of(path)
+    prose, rows, at = [], [], 0
+    while at < len(lines) and lines[at].startswith("--"):
+        line = lines[at][2:]
+        listed = re.match(r" {5}(\S.*?) {2,}(\S.*)$", line)
+        if listed:
+            rows.append([listed.group(1), listed.group(2)])
+        elif rows and line.startswith("       "):
+            rows[-1][1] += " " + line.strip()
+        elif line.strip():
+            prose.append(line.strip())
+        at += 1
+    comments, above, last = {}, [], ""
+    for line in lines[at:]:
+        word = WORD.match(line)
+        if line.lstrip().startswith("-- ") and not line.lstrip().startswith("-- ----"):
+            above.append(line.strip()[3:])
+        elif word:
+            # (a definition with no comment of its own goes with the one before it)
+            last = " ".join(above) or last
+            comments.setdefault(word.group(1), last)
+            above = []
+        else:
+            above = []
+    return " ".join(prose), rows, comments
+
+
+def sentence(text):
+    text = text.strip().rstrip(".:;")
+    return text[:1].upper() + text[1:] + "." if text else ""
+
+
+def page():
+    out, missing, uses = [HEAD], [], cited()
+    for crate in crates():
+        rows = []
+        for name in modules(crate):
+            _, listed, comments = read(f"{TOP}/crates/{crate}/specs/{name}.antt")
+            named = set()
+            for words, meaning in listed:
+                named |= set(re.findall(r"[A-Za-z][A-Za-z0-9_]*", words))
+                spelled = ", ".join(f"`{it.split()[0]}`" for it in words.split(",") if it.strip())
+                rows.append(f"| {spelled} | `{name}` | {sentence(meaning)} |")
+            for word, comment in comments.items():
+                if word in uses and word not in named:
+                    rows.append(f"| `{word}` | `{name}` | {sentence(comment)} |")
+                    if not comment:
+                        missing.append(f"crates/{crate}/specs/{name}.antt: `{word}` is cited by a clause, and no comment says what it is")
+        if rows:
+            out.append(f"\n## `{crate}`\n\n| Word | Module | What it says |\n|---|---|---|\n" + "\n".join(rows) + "\n")
+    return "".join(out), missing
+
+
+def main():
+    text, missing = page()
+    for it in missing:
+        print(it)
+    if "--check" in sys.argv[1:]:
+        stale = not os.path.exists(PAGE) or "\n".join(lines_of(PAGE)) != text
+        if stale:
+            print("docs/DEFINITIONS.md is stale: run docs/definitions.py")
+        return 1 if stale or missing else 0
+    with open(PAGE, "w", encoding="utf-8") as it:
+        it.write(text)
+    return 1 if missing else 0
+
+
+sys.exit(main())
