@@ -1,12 +1,16 @@
 use super::*;
 use clone_values::{PathSpec, Text};
+use idb_base::GREATEST_LENGTH;
 use path_grammar::KeyPath;
 use std::alloc::Global;
 use std::process::Abort;
 use std::test::Fail;
 
 fn text(alloc: Global, s: &str) -> Result<Text, Fail> {
-    Ok(Text::from_string(String::from_str(alloc, s)?))
+    if s.len() > GREATEST_LENGTH {
+        return Err(Fail::new("a text that is too long"));
+    }
+    Ok(Text::copy_of(alloc, s)?)
 }
 
 fn index(alloc: Global, name: &str) -> Result<IndexInfo, Fail> {

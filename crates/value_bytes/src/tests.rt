@@ -2,11 +2,15 @@ use super::*;
 use clone_values::{
     Bytes, Items, Key, Keys, Pairs, Props, Text, Value, clone_value, same_value, well_formed,
 };
+use idb_base::GREATEST_LENGTH;
 use std::alloc::Global;
 use std::process::Abort;
 use std::test::Fail;
 
 fn text(alloc: Global, s: &str) -> Result<Text, Fail> {
+    if s.len() > GREATEST_LENGTH {
+        return Err(Fail::new("a text that is too long"));
+    }
     Ok(Text::copy_of(alloc, s)?)
 }
 
