@@ -8,18 +8,14 @@ use std::fmt::Write;
 use std::process::Abort;
 use std::test::Fail;
 
-fn text(alloc: Global, s: &str) -> Result<Text, Fail> {
-    Ok(Text::from_string(alloc, String::from_str(alloc, s)?)?)
-}
-
 fn path(alloc: Global) -> Result<KeyPath, Fail> {
-    Ok(KeyPath::parse(PathSpec::One(text(alloc, "p")?))?)
+    Ok(KeyPath::parse(PathSpec::One(Text::copy_of(alloc, "p")?))?)
 }
 
 /// One change of each kind, of database d, store s and index i.
 fn delta(alloc: Global, kind: usize) -> Result<Delta, Fail> {
-    let db = text(alloc, "d")?;
-    let store = text(alloc, "s")?;
+    let db = Text::copy_of(alloc, "d")?;
+    let store = Text::copy_of(alloc, "s")?;
     Ok(match kind {
         0 => Delta::Version { db, version: 2 },
         1 => Delta::DropDatabase { db },
@@ -33,7 +29,7 @@ fn delta(alloc: Global, kind: usize) -> Result<Delta, Fail> {
         4 => Delta::CreateIndex {
             db,
             store,
-            index: text(alloc, "i")?,
+            index: Text::copy_of(alloc, "i")?,
             path: path(alloc)?,
             unique: true,
             multi: false,
@@ -41,7 +37,7 @@ fn delta(alloc: Global, kind: usize) -> Result<Delta, Fail> {
         5 => Delta::DropIndex {
             db,
             store,
-            index: text(alloc, "i")?,
+            index: Text::copy_of(alloc, "i")?,
         },
         6 => Delta::Put {
             db,
