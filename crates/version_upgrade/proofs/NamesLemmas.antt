@@ -116,6 +116,7 @@ removed_name (m ∷ ms) (suc p) n o d e =
     false_from : (b : Bool) → (b ≡ true → ⊥) → b ≡ false
     false_from true f = absurd (f refl)
     false_from false f = refl
+
     other : (m n o : List ℕ) (ms : List (List ℕ)) (p : ℕ) → has_name m ms ≡ false → slice_get ms p ≡ Some n → pointwise nat_eq m o ≡ true → pointwise nat_eq n o ≡ false
     other m n o ms p none at is = false_from _ (λ two. let same : n ≡ m = same_text n o two ∙ sym (same_text m o is) in let there : has_name m ms ≡ true = ap (λ k. has_name k ms) (sym same) ∙ among ms p n at in cc)
 

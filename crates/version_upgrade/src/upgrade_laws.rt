@@ -9,8 +9,7 @@ ghost use Rattle.idb_schema.specs.Schemas.{SchemaData, IsSchema, place_of};
 ghost use Rattle.idb_schema.specs.Sound.{AreSound};
 ghost use Rattle.version_upgrade.specs.Upgrades.{has_store, has_index, indexes_of, refusal_of_schema, schema_after};
 
-use idb_schema::name_laws as names_of_schemas;
-use idb_schema::{change_laws, sound_laws};
+use idb_schema::{change_laws, name_laws as names_of_schemas, sound_laws};
 
 /// The laws of names: after a call the schema has exactly the names that it had, and the one that the call adds or without the
 /// one that it takes; the indexes of other stores stay.
