@@ -76,7 +76,8 @@ impl KeyPath {
     }
 }
 
-fn is_key_path(spec: &PathSpec) -> bool
+/// Whether the string, or each string of the list, is a key path: what `parse` takes. It takes no memory.
+pub fn is_key_path(spec: &PathSpec) -> bool
     ensures { result ≡ is_key_path spec.now }
 {
     match spec {

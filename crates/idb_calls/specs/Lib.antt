@@ -1,0 +1,3 @@
+pub mod Deltas
+pub mod Traces
+pub mod View

@@ -1,0 +1,4 @@
+pub mod Cursors
+pub mod Seeking
+pub mod View
+pub mod Views
