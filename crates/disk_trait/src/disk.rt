@@ -12,7 +12,8 @@ use edge_traits::Failed;
 ///
 /// An area is at most 9,223,372,036,854,775,807 bytes long; a write past that is a counted fault.
 pub trait Disk {
-    /// What is said of a disk: what reads give, the lengths, what a stop may leave, and the count of faults.
+    /// What is said of a disk: what reads give, the lengths, what a stop may leave now and since a moment, and the
+    /// count of faults.
     ghost shows: { Self → DiskView };
 
     /// How often the disk has failed so far, as a number that a caller may keep.
@@ -63,8 +64,8 @@ pub trait Disk {
         ensures time { Elapses (shows self.old) (shows self.new) }
         ensures cause { HasFaultCause (shows self.old).faults (shows self.new).faults result };
 
-    /// After it, a stop leaves what reads give in this area. The other area is as before. After an `Err` the images
-    /// are as they were.
+    /// After `Ok` a stop leaves what reads give in this area. No image is new. After an `Err` the images are as they
+    /// were.
     fn sync(&mut self, area: Area) -> Result<(), Failed>
         ensures durable { OnOk result (Pins area (shows self.old) (shows self.new)) }
         ensures unsynced { OnErr result (SameImages (shows self.old).may_leave (shows self.new).may_leave) }
@@ -75,7 +76,7 @@ pub trait Disk {
         ensures cause { HasFaultCause (shows self.old).faults (shows self.new).faults result };
 
     /// Starts the disk again, after a stop or without one: reads then give one of the images, and a stop leaves just
-    /// that. After an `Err` all is as it was.
+    /// that. After an `Err` reads, lengths and images are as they were.
     fn restart(&mut self) -> Result<(), Failed>
         ensures restarted { OnOk result (Leads
             (λ before after. (shows self.old).may_leave after) (shows self.old) (shows self.new)) }

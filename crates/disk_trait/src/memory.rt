@@ -18,8 +18,8 @@ const LONGEST: u64 = 0x7fff_ffff_ffff_ffff;
 
 /// A disk in memory, which fails and stops by a plan. It takes all its memory at the start.
 ///
-/// A call fails where the plan lists its number, while a stop holds, and past the number of calls; a write also where
-/// there is no room for its bytes. A write or a cut that fails is done all the same, as on a disk that can't say so, but
+/// A call fails where the plan lists its number, while a stop holds, unless it is a `restart`, and past the number of
+/// calls; a write also where there is no room for its bytes. A write or a cut that fails is done all the same, as on a disk that can't say so, but
 /// for two: past the number of calls nothing reaches the disk, and without room reads stay and the range is in doubt.
 #[derive(Drop)]
 pub struct MemoryDisk {
@@ -42,7 +42,8 @@ impl Model for MemoryDisk {
 }
 
 impl MemoryDisk {
-    /// A disk with two empty areas, for `room` bytes in all the writes to come, and for so many calls.
+    /// A disk with two empty areas, for `room` bytes in all the writes to come, and for so many calls. It takes five
+    /// times the room, and an entry a call. `NoMemory` comes also where the room is more than an area can have.
     pub fn with_room(
         alloc: Global,
         room: u64,

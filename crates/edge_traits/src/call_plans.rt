@@ -6,7 +6,7 @@ ghost use Rattle.edge_traits.specs.Fakes.{CountsCall, IsListed, no_calls};
 use crate::Failed;
 use std::marker::Model;
 
-/// The calls of a fake, numbered from 1, and the list of those that are to fail. A look-up goes through the whole list.
+/// The calls of a fake, numbered from 1, and the list of those that are to fail. Each call goes through that list.
 #[derive(Drop)]
 pub struct CallPlan {
     made: u64,

@@ -21,7 +21,7 @@ pub use memory_sources::{MemorySource, SteadySource};
 pub use sinks::{Sink, write_all};
 pub use sources::{Source, SourceError, read_all};
 
-/// What a source, a sink or a disk answers where it failed. The cause is counted: the fault count of
-/// the object rose.
+/// What a source, a sink or a disk answers where it failed. The fault is counted: the object's count
+/// rose, or stands at its end.
 #[derive(Clone, Copy, Debug, PartialEq, Eq)]
 pub struct Failed;

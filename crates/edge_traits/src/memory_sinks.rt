@@ -11,8 +11,8 @@ use idb_base::NoMemory;
 use std::alloc::Global;
 use std::marker::Model;
 
-/// A sink over memory, which has all its memory from the start. Its calls are numbered from 1, and
-/// those that are listed fail.
+/// A sink over memory, which has all its memory from the start. Its calls are numbered from 1. Those
+/// that are listed fail, and so does one that brings bytes where no room is left.
 #[derive(Drop)]
 pub struct MemorySink {
     bytes: Vec<u8>,
@@ -32,7 +32,7 @@ impl Model for MemorySink {
 }
 
 impl MemorySink {
-    /// A sink that holds at most `room` bytes, whose calls with the numbers in `fail_at` fail.
+    /// An empty sink that holds at most `room` bytes, whose calls with the numbers in `fail_at` fail.
     pub fn with_room(alloc: Global, room: usize, fail_at: Vec<u64>) -> Result<Self, NoMemory>
         ensures { IfOk result (λ s. s ≡ record { held = []; room = room; calls = no_calls fail_at.items }) }
     {
@@ -43,7 +43,7 @@ impl MemorySink {
         })
     }
 
-    /// The bytes that were written.
+    /// The bytes that it took.
     pub fn bytes(&self) -> &[u8]
         ensures held { result.now ≡ self.now.held }
         ensures within { length self.now.held ≤ self.now.room }

@@ -13,7 +13,7 @@ pub trait Sink {
 
     ghost faults: { Self → ℕ };
 
-    /// Appends bytes from the front of `bytes`, as many as the answer says.
+    /// Appends bytes from the front of `bytes`, as many as the answer says; after `Failed`, none.
     fn write(&mut self, bytes: &[u8]) -> Result<usize, Failed>
         ensures fits { IfOk result (λ n. n ≤ length bytes.now) }
         ensures moves { IfOk result (λ n. 0 < length bytes.now → 0 < n) }

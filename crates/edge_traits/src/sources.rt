@@ -17,7 +17,7 @@ pub trait Source {
     ghost faults: { Self → ℕ };
 
     /// Takes bytes from the front of what is left, as many as the answer says, and puts them at the
-    /// front of `buf`. The rest of `buf` may be anything.
+    /// front of `buf`. The rest of `buf` may be anything. After `Failed` nothing was taken.
     fn read(&mut self, buf: &mut [u8]) -> Result<usize, Failed>
         ensures fits { IfOk result (λ n. n ≤ length buf.new) }
         ensures given { ReadConsumes (left self.old) (left self.new) result buf.new }

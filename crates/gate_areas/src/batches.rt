@@ -11,7 +11,9 @@ pub type Payload = Listed<u8>;
 /// A batch: the place of its gate, and its payload.
 #[derive(Drop)]
 pub struct Batch {
+    /// The place of its gate in its area.
     pub place: u64,
+    /// Its payload.
     pub payload: Payload,
 }
 

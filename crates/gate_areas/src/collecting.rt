@@ -49,7 +49,7 @@ impl From<AllocError> for CollectError {
     }
 }
 
-/// Reads the batches of the live area, with their payloads, in one device call a batch.
+/// Reads the batches of the live area, with their payloads, in one device call a batch and at most two more.
 pub fn collect<D: Disk>(
     alloc: Global,
     disk: &mut D,

@@ -74,7 +74,7 @@ pub(crate) fn gate_in(front: &[u8], place: u64, end: u64) -> Gate
     Gate::Open(length)
 }
 
-/// Reads the gate at a place in one device call, as if the area ended with the byte at `end`, whatever that byte is.
+/// Reads the gate at a place in one device call at most, as if the area ended with the byte at `end`, whatever that byte is.
 pub(crate) fn read_gate<D: Disk>(
     disk: &mut D,
     area: Area,

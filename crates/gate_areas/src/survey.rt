@@ -17,7 +17,7 @@ pub struct Survey {
     pub choice: Choice,
 }
 
-/// Reads the framing of both areas, in one device call a batch.
+/// Reads the framing of both areas, in one device call a batch and at most five more an area.
 pub fn survey_areas<D: Disk>(disk: &mut D) -> Result<Survey, Failed>
     ensures zero { IfOk result (λ s. WhereTold (D.shows disk.old) (λ areas. StandsAs s.zero areas.zero)) }
     ensures one { IfOk result (λ s. WhereTold (D.shows disk.old) (λ areas. StandsAs s.one areas.one)) }

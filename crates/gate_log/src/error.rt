@@ -15,12 +15,12 @@ pub enum LogError {
     NoMemory,
 }
 
-/// Why a batch was not appended.
+/// Why a batch was not appended, or the log did not go over into the other area.
 #[derive(Clone, Copy, Debug, PartialEq, Eq)]
 pub enum AppendError {
-    /// The disk failed in this call. The batch may be in the log or not.
+    /// The disk failed in this call. A stop may leave the log with the batch, or the one from before.
     DiskFault,
-    /// An append failed before, and the disk's count of faults then was this.
+    /// An append or a switch failed before, and the disk's count of faults then was this.
     Faulted { seen: u64 },
 }
 

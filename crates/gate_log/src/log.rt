@@ -93,8 +93,8 @@ impl<D: Disk> GateLog<D> {
 
     /// Opens the log that a disk holds. It syncs both areas, reads them, and repairs the end of the live one, so that
     /// what stands behind the last batch can never count. Two blank areas give a new log in area 0 with generation 1.
-    /// Of the payloads only those of the live area are read: two device calls a batch. `Damaged` names the lesser area
-    /// first, and its first place. After an error the disk may be loaded again.
+    /// Only the payloads of the live area are read. A batch of the live area takes two device calls, one of the other area
+    /// takes one. `Damaged` names the lesser area first, and its first place. After an error the disk may be loaded again.
     pub fn load(alloc: Global, disk: D) -> Result<(GateLog<D>, Batches), (LogError, D)>
         // What is found of what reads give, and a log that has it.
         ensures found { IfOk result (λ opened. WhereTold (D.shows disk)
@@ -266,7 +266,7 @@ impl<D: Disk> GateLog<D> {
         }
     }
 
-    /// The count of faults that was seen when an append or a switch failed; `None` until then. It costs nothing.
+    /// The count of faults that was seen when an append or a switch failed; `None` until then. It takes no memory.
     pub fn failed(&self) -> Option<u64>
         ensures value { result ≡ failed_at self.now }
         ensures counted { (seen : ℕ) → failed_at self.now ≡ Some seen
