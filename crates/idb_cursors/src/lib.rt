@@ -8,6 +8,7 @@
 mod cursor;
 mod row_view;
 mod seeking;
+mod turns;
 
 pub use cursor::Cursor;
 pub use row_view::RowView;

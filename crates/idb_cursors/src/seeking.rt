@@ -1,12 +1,12 @@
 // The place of the member that a turn takes, found by halving.
-ghost use Rattle.std.specs.Prelude.{◌≡◌, ℕ, ◌+◌, ◌*◌, ◌^◌, ◌<◌, ◌≤◌, Some, length, slice_get, option_map};
+ghost use Rattle.std.specs.Prelude.{◌≡◌, ℕ, ◌+◌, ◌*◌, ◌^◌, ◌<◌, ◌≤◌, false, Some, length, slice_get, option_map};
 ghost use Rattle.clone_values.specs.View.{key_tree_of};
 ghost use Rattle.key_order.specs.KeyOrder.{key_cmp};
 ghost use Rattle.idb_keys.specs.KeyRange.{meets_lower, meets_upper};
 ghost use Rattle.index_tables.specs.Rows.{row_cmp};
 ghost use Rattle.index_tables.specs.Halves.{IsSplitAt};
 ghost use Rattle.idb_cursors.specs.Cursors.{is_forward, is_unique, toward, is_reached, is_passed, first_of_key, next_place, turns_from, iterated};
-ghost use Rattle.idb_cursors.specs.Seeking.{begins, ends, is_near, is_behind};
+ghost use Rattle.idb_cursors.specs.Seeking.{begins, ends, is_near, is_behind, place_within, nearest_place};
 ghost use Rattle.idb_cursors.specs.View.{row_shown, key_shown, turn_seen};
 
 use crate::row_view::RowView;
@@ -26,7 +26,7 @@ pub(crate) struct Turn<'a> {
     pub(crate) primary: Option<&'a Key>,
 }
 
-fn is_forward(direction: Direction) -> bool
+pub(crate) fn is_forward(direction: Direction) -> bool
     ensures { result ≡ is_forward direction }
 {
     match direction {
@@ -37,7 +37,7 @@ fn is_forward(direction: Direction) -> bool
     }
 }
 
-fn is_unique(direction: Direction) -> bool
+pub(crate) fn is_unique(direction: Direction) -> bool
     ensures { result ≡ is_unique direction }
 {
     match direction {
@@ -243,4 +243,86 @@ fn split<R: RowView, L: Ledger>(rows: &R, turn: &Turn, steps: &mut Steps<L>) -> 
         }
     }
     low
+}
+
+/// The place, where a member stands there that meets the bound on the other side; at most one comparison.
+pub(crate) fn place_within<R: RowView, L: Ledger>(
+    rows: &R,
+    turn: &Turn,
+    place: usize,
+    steps: &mut Steps<L>,
+) -> Option<usize>
+    ensures value { result ≡ place_within (R.rows rows.now) (turn_seen turn.now) place }
+    ensures counted { steps.new ≤ steps.old + 1 }
+{
+    match rows.at(place) {
+        Some((key, _)) => {
+            if ends(turn.direction, turn.range, key, steps) {
+                Some(place)
+            } else {
+                None
+            }
+        }
+        None => None,
+    }
+}
+
+/// The place of the first or the last member that meets what the turn asks.
+fn nearest<R: RowView, L: Ledger>(rows: &R, turn: &Turn, steps: &mut Steps<L>) -> Option<usize>
+    ensures value { result ≡ nearest_place (R.rows rows.now) (turn_seen turn.now) }
+    ensures cost { (d : ℕ) → length (R.rows rows.now) < 2 ^ d → steps.new ≤ steps.old + (5 * d + 1) }
+{
+    let place = split(rows, turn, steps);
+    if is_forward(turn.direction) {
+        place_within(rows, turn, place, steps)
+    } else if place == 0 {
+        None
+    } else {
+        place_within(rows, turn, place - 1, steps)
+    }
+}
+
+/// The place of the first member that has the key of the one at this place.
+fn first_of_key<R: RowView, L: Ledger>(
+    rows: &R,
+    place: usize,
+    steps: &mut Steps<L>,
+) -> Option<usize>
+    ensures value { result ≡ first_of_key (R.rows rows.now) place }
+    ensures cost { (d : ℕ) → length (R.rows rows.now) < 2 ^ d → steps.new ≤ steps.old + 5 * d }
+{
+    match rows.at(place) {
+        Some((key, _)) => {
+            let all = KeyRange::all();
+            let turn = Turn {
+                direction: Direction::NextUnique,
+                range: &all,
+                place: None,
+                key: Some(key),
+                primary: None,
+            };
+            Some(split(rows, &turn, steps))
+        }
+        None => None,
+    }
+}
+
+/// The place of the member that one turn takes.
+pub(crate) fn next_place<R: RowView, L: Ledger>(
+    rows: &R,
+    turn: &Turn,
+    steps: &mut Steps<L>,
+) -> Option<usize>
+    ensures value { result ≡ next_place (R.rows rows.now) (turn_seen turn.now) }
+    ensures cost { (d : ℕ) → length (R.rows rows.now) < 2 ^ d → steps.new ≤ steps.old + (10 * d + 1) }
+{
+    match nearest(rows, turn, steps) {
+        Some(place) => match turn.direction {
+            Direction::Next => Some(place),
+            Direction::NextUnique => Some(place),
+            Direction::Prev => Some(place),
+            Direction::PrevUnique => first_of_key(rows, place, steps),
+        },
+        None => None,
+    }
 }
