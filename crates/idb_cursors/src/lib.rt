@@ -11,4 +11,4 @@ mod seeking;
 mod turns;
 
 pub use cursor::Cursor;
-pub use row_view::RowView;
+pub use row_view::{RecordsShown, RowView, RowsShown};

@@ -18,12 +18,13 @@ use std::cmp::Ordering;
 use std::sync::ledger::Ledger;
 
 /// What one turn goes by: which way, in which range and from which place, and the keys that are given.
-pub(crate) struct Turn<'a> {
+#[derive(Drop)]
+pub(crate) struct Turn<'a, 'b> {
     pub(crate) direction: Direction,
     pub(crate) range: &'a KeyRange,
-    pub(crate) place: Option<(&'a Key, &'a Key)>,
-    pub(crate) key: Option<&'a Key>,
-    pub(crate) primary: Option<&'a Key>,
+    pub(crate) place: Option<(&'b Key, &'b Key)>,
+    pub(crate) key: Option<&'b Key>,
+    pub(crate) primary: Option<&'b Key>,
 }
 
 pub(crate) fn is_forward(direction: Direction) -> bool
@@ -48,8 +49,19 @@ pub(crate) fn is_unique(direction: Direction) -> bool
     }
 }
 
+/// An order as the direction meets it.
+pub(crate) fn toward(direction: Direction, order: Ordering) -> Ordering
+    ensures { result ≡ toward direction order }
+{
+    if is_forward(direction) {
+        order
+    } else {
+        order.reverse()
+    }
+}
+
 /// How two keys stand to each other as the direction meets them; one comparison.
-pub(crate) fn compared<L: Ledger>(
+fn compared<L: Ledger>(
     direction: Direction,
     a: &Key,
     b: &Key,
@@ -59,22 +71,17 @@ pub(crate) fn compared<L: Ledger>(
     ensures counted { steps.new ≡ steps.old + 1 }
 {
     steps.tick();
-    let order = compare(a, b);
-    if is_forward(direction) {
-        order
-    } else {
-        order.reverse()
-    }
+    toward(direction, compare(a, b))
 }
 
 /// The same of pairs, of which the first keys decide unless they tie; at most two comparisons.
-pub(crate) fn compared_pairs<L: Ledger>(
+fn compared_pairs<L: Ledger>(
     direction: Direction,
     a: (&Key, &Key),
     b: (&Key, &Key),
     steps: &mut Steps<L>,
 ) -> Ordering
-    ensures value { result ≡ toward direction (row_cmp (row_shown a) (row_shown b)) }
+    ensures value { result ≡ toward direction (row_cmp (row_shown a.entry) (row_shown b.entry)) }
     ensures counted { steps.new ≤ steps.old + 2 }
 {
     match compared(direction, a.0, b.0, steps) {
@@ -159,7 +166,7 @@ fn is_reached<L: Ledger>(
     member: (&Key, &Key),
     steps: &mut Steps<L>,
 ) -> bool
-    ensures value { result ≡ is_reached direction (key_shown key.entry) (key_shown primary.entry) (row_shown member) }
+    ensures value { result ≡ is_reached direction (key_shown key.entry) (key_shown primary.entry) (row_shown member.entry) }
     ensures counted { steps.new ≤ steps.old + 2 }
 {
     match (key, primary) {
@@ -182,7 +189,7 @@ fn is_passed<L: Ledger>(
     member: (&Key, &Key),
     steps: &mut Steps<L>,
 ) -> bool
-    ensures value { result ≡ is_passed direction (option_map row_shown place) (row_shown member) }
+    ensures value { result ≡ is_passed direction (option_map row_shown place.entry) (row_shown member.entry) }
     ensures counted { steps.new ≤ steps.old + 2 }
 {
     match place {
@@ -199,7 +206,7 @@ fn is_passed<L: Ledger>(
 
 /// Whether a member meets all that the turn asks but the bound on the other side; at most five comparisons.
 fn is_near<L: Ledger>(turn: &Turn, member: (&Key, &Key), steps: &mut Steps<L>) -> bool
-    ensures value { result ≡ is_near (turn_seen turn.now) (row_shown member) }
+    ensures value { result ≡ is_near (turn_seen turn.now) (row_shown member.entry) }
     ensures counted { steps.new ≤ steps.old + 5 }
 {
     is_passed(turn.direction, turn.place, member, steps)

@@ -45,16 +45,17 @@ fn further<R: RowView, L: Ledger>(
     ensures value { result ≡ turns_from (R.rows rows.now) (turn_seen turn.now) more place }
     ensures counted { steps.new ≤ steps.old + 1 }
 {
+    let more = more as usize;
     if is_forward(turn.direction) {
-        match place.checked_add(more as usize) {
-            Some(last) => place_within(rows, turn, last, steps),
-            None => None,
+        if more < rows.len() - place {
+            place_within(rows, turn, place + more, steps)
+        } else {
+            None
         }
+    } else if more <= place {
+        place_within(rows, turn, place - more, steps)
     } else {
-        match place.checked_sub(more as usize) {
-            Some(last) => place_within(rows, turn, last, steps),
-            None => None,
-        }
+        None
     }
 }
 
