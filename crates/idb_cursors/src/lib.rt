@@ -12,3 +12,6 @@ mod turns;
 
 pub use cursor::Cursor;
 pub use row_view::{RecordsShown, RowView, RowsShown};
+
+#[cfg(test)]
+mod tests;
