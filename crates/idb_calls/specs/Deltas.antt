@@ -1,10 +1,8 @@
 -- What a commit changes, as plain data.
 --     DeltaTree             one change, with trees for its key and its value; each name is the list of its UTF-8 bytes
---     delta_code            by which a proof tells two changes apart
 use Rattle.std.specs.Prelude.{ℕ, Bool, List, Option}
-use Rattle.std.specs.Coded.{Coded, codes}
-use Rattle.clone_values.specs.Tree.{Tree, tree_code}
-use Rattle.clone_values.specs.KeyTree.{KeyTree, key_code}
+use Rattle.clone_values.specs.Tree.{Tree}
+use Rattle.clone_values.specs.KeyTree.{KeyTree}
 use Rattle.clone_values.specs.declared.path_types.PathSpec.{PathSpec}
 
 -- the database stands first, then the store, then the index
@@ -19,6 +17,3 @@ pub data DeltaTree : Type 0 where
   Remove : List ℕ → List ℕ → KeyTree → DeltaTree
   Clear : List ℕ → List ℕ → DeltaTree
   Current : List ℕ → List ℕ → ℕ → DeltaTree
-
-abbrev pub delta_code : Coded DeltaTree
-delta_code = Prim.hlevel (codes, key_code, tree_code)

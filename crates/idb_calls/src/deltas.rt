@@ -83,12 +83,14 @@ pub struct Deltas {
 
 impl Model for Deltas {
     ghost use Rattle.std.specs.Prelude.{List, map};
-    ghost use Rattle.std.specs.Coded.{coded_list};
-    ghost use Rattle.idb_calls.specs.Deltas.{DeltaTree, delta_code};
+    ghost use Rattle.std.specs.Coded.{codes};
+    ghost use Rattle.clone_values.specs.Tree.{tree_code};
+    ghost use Rattle.clone_values.specs.KeyTree.{key_code};
+    ghost use Rattle.idb_calls.specs.Deltas.{DeltaTree};
 
     ghost Value = { List DeltaTree };
 
-    ghost coded = { coded_list delta_code };
+    ghost coded = { Prim.hlevel (codes, key_code, tree_code) };
 
     ghost use Rattle.idb_calls.specs.View.{delta_of};
 

@@ -7,7 +7,6 @@
 --     key_beyond, row_beyond      what lies beyond a key, or a pair of keys, in a direction
 --     key_beyond_place, pair_beyond_place      the same of a cursor's place, which a fresh cursor has not
 use Rattle.std.specs.Prelude.{ℕ, zero, suc, Bool, true, false, ◌&&◌, List, [], ◌∷◌, if◌then◌else◌, slice_get, Option, Some, None, option_map}
-use Rattle.std.specs.Coded.{Coded, codes}
 use Rattle.std.specs.List.{position}
 use Rattle.std.specs.Option.{option_and_then, option_or}
 use Rattle.std.specs.declared.cmp.Ordering.{Ordering}
@@ -17,8 +16,8 @@ use Rattle.key_order.specs.KeyOrder.{key_cmp}
 use Rattle.idb_keys.specs.declared.names.Direction.{Direction}
 use Rattle.idb_keys.specs.declared.names.Direction.TheVariants.{Next, NextUnique, Prev, PrevUnique}
 use Rattle.idb_keys.specs.declared.names.Over.{Over}
-use Rattle.idb_keys.specs.KeyRange.{Range, includes, range_code}
-use Rattle.index_tables.specs.Rows.{RowTree, row_cmp, row_code}
+use Rattle.idb_keys.specs.KeyRange.{Range, includes}
+use Rattle.index_tables.specs.Rows.{RowTree, row_cmp}
 
 -- what the cursor goes over, which way and in which range, whether it shows keys alone, and the key and the primary key of the
 -- member that it took last ("position" and "object store position"); the two keys of a record of a store are one
@@ -28,9 +27,6 @@ pub record CursorData : Type 0 where
   pub range : Range
   pub keys_only : Bool
   pub place : Option RowTree
-
-abbrev pub cursor_code : Coded CursorData
-cursor_code = Prim.hlevel (codes, range_code, row_code)
 
 abbrev pub fresh_cursor : Over → Direction → Range → Bool → CursorData
 fresh_cursor over direction range keys_only = record { over = over; direction = direction; range = range; keys_only = keys_only; place = None }

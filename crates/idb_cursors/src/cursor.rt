@@ -1,17 +1,24 @@
 // A cursor: what it goes over, which way, in which range, and the member that it took last.
-ghost use Rattle.std.specs.Prelude.{◌≡◌, ◌-◌, ◌≤◌, Some, option_map, IfOk, OnErr};
+ghost use Rattle.std.specs.Prelude.{◌≡◌, ℕ, ◌+◌, ◌-◌, ◌*◌, ◌^◌, ◌<◌, ◌≤◌, length, option_map, IfOk, OnErr};
 ghost use Rattle.clone_values.specs.View.{key_tree_of};
-ghost use Rattle.idb_keys.specs.KeyRange.{every_key};
-ghost use Rattle.idb_cursors.specs.Cursors.{fresh_cursor, iterated, cursor_after, key_beyond_place, pair_beyond_place};
+ghost use Rattle.index_tables.specs.Rows.{row_cmp};
+ghost use Rattle.index_tables.specs.View.{row_of};
+ghost use Rattle.idb_cursors.specs.Cursors.{fresh_cursor, turn_of, iterated, cursor_after, key_beyond_place, pair_beyond_place};
 ghost use Rattle.idb_cursors.specs.View.{key_shown, row_shown, range_given};
 
 use crate::row_view::RowView;
+use crate::seeking::{Turn, toward};
+use crate::turns::iterated;
 use clone_values::Key;
 use idb_base::NoMemory;
 use idb_keys::{Direction, KeyRange, Over};
 use index_tables::Row;
+use key_order::compare;
+use sorted_table::Steps;
 use std::alloc::Global;
-use std::marker::Model;
+use std::cmp::Ordering;
+use std::marker::{Brand, Model};
+use std::sync::ledger::{Blank, Ledger};
 
 /// A cursor (Indexed Database API 3.0, "cursor").
 #[derive(Drop)]
@@ -25,13 +32,17 @@ pub struct Cursor {
 
 impl Model for Cursor {
     ghost use Rattle.std.specs.Prelude.{option_map};
-    ghost use Rattle.idb_cursors.specs.Cursors.{CursorData, cursor_code};
+    ghost use Rattle.std.specs.Coded.{codes};
+    ghost use Rattle.idb_keys.specs.KeyRange.{range_code};
+    ghost use Rattle.index_tables.specs.Rows.{row_code};
+    ghost use Rattle.idb_cursors.specs.Cursors.{CursorData};
 
     ghost Value = { CursorData };
 
-    ghost coded = { cursor_code };
+    ghost coded = { Prim.hlevel (codes, range_code, row_code) };
 
-    ghost use Rattle.index_tables.specs.View.{row_of};
+    ghost use Rattle.index_tables.specs.Rows.{row_cmp};
+ghost use Rattle.index_tables.specs.View.{row_of};
 
     ghost view = { λ a. record {
       over = a.over;
@@ -89,9 +100,136 @@ impl Cursor {
     pub fn place(&self) -> Option<(&Key, &Key)>
         ensures { option_map row_shown result ≡ self.now.place }
     {
+        lent(&self.place)
+    }
+
+    /// Whether the key lies beyond that of the cursor's member, in its direction ("continue"). It takes no memory.
+    pub fn is_key_ahead(&self, key: &Key) -> bool
+        ensures { result ≡ key_beyond_place self.now.direction self.now.place (key_tree_of key.now) }
+    {
         match &self.place {
-            Some(row) => Some((&row.key, &row.primary)),
-            None => None,
+            Some(row) => toward(self.direction, compare(&row.key, key)).is_lt(),
+            None => true,
         }
+    }
+
+    /// Whether the key and the primary key lie beyond those of the cursor's member, in its direction ("continuePrimaryKey"). It
+    /// takes no memory.
+    pub fn is_pair_ahead(&self, key: &Key, primary: &Key) -> bool
+        ensures { result ≡ pair_beyond_place self.now.direction self.now.place
+            (key_tree_of key.now, key_tree_of primary.now) }
+    {
+        match &self.place {
+            Some(row) => toward(self.direction, row_order(row, key, primary)).is_lt(),
+            None => true,
+        }
+    }
+
+    /// Moves the cursor by so many turns over the members of its source, and gives the place of the member that it then takes;
+    /// `None` at the first turn that finds nothing, where the cursor stays as it was. A key that is given, or a key and a primary
+    /// key, are where it goes on at the least. The cursor keeps copies of the member's keys.
+    pub fn iterate<R: RowView>(
+        &mut self,
+        alloc: Global,
+        rows: &R,
+        key: Option<&Key>,
+        primary: Option<&Key>,
+        count: u32,
+    ) -> Result<Option<usize>, NoMemory>
+        requires one_at_least { 1 ≤ count }
+        ensures found { IfOk result (λ place. place ≡ iterated (R.rows rows.now)
+            (turn_of self.old (key_shown key.entry) (key_shown primary.entry)) (count - 1)) }
+        ensures moved { IfOk result (λ place. self.new ≡ cursor_after (R.rows rows.now) self.old place) }
+        ensures unchanged { OnErr result (self.new ≡ self.old) }
+    {
+        self.iterate_by::<R, Brand>(alloc, rows, key, primary, count, Blank::new(1))
+    }
+
+    /// The same; each comparison of two keys is counted. With d binary digits of the number of members a turn takes at most ten
+    /// times d + 2.
+    pub fn iterate_counted<R: RowView, L: Ledger>(
+        &mut self,
+        alloc: Global,
+        rows: &R,
+        key: Option<&Key>,
+        primary: Option<&Key>,
+        count: u32,
+        steps: &mut Steps<L>,
+    ) -> Result<Option<usize>, NoMemory>
+        requires one_at_least { 1 ≤ count }
+        ensures found { IfOk result (λ place. place ≡ iterated (R.rows rows.now)
+            (turn_of self.old (key_shown key.entry) (key_shown primary.entry)) (count - 1)) }
+        ensures moved { IfOk result (λ place. self.new ≡ cursor_after (R.rows rows.now) self.old place) }
+        ensures unchanged { OnErr result (self.new ≡ self.old) }
+        ensures cost { (d : ℕ) → length (R.rows rows.now) < 2 ^ d
+            → steps.new ≤ steps.old + count * (10 * (d + 2)) }
+    {
+        let turn = Turn {
+            direction: self.direction,
+            range: &self.range,
+            place: lent(&self.place),
+            key,
+            primary,
+        };
+        let found = iterated(rows, &turn, count - 1, steps);
+        if let Some(place) = found {
+            self.place = copied(alloc, rows.at(place))?;
+        }
+        Ok(found)
+    }
+
+    fn iterate_by<R: RowView, L: Ledger>(
+        &mut self,
+        alloc: Global,
+        rows: &R,
+        key: Option<&Key>,
+        primary: Option<&Key>,
+        count: u32,
+        blank: Blank,
+    ) -> Result<Option<usize>, NoMemory>
+        requires one_at_least { 1 ≤ count }
+        requires name { blank.name ≡ L.name }
+        requires parts { blank.parts ≡ L.parts }
+        requires some { 0 < blank.parts }
+        ensures found { IfOk result (λ place. place ≡ iterated (R.rows rows.now)
+            (turn_of self.old (key_shown key.entry) (key_shown primary.entry)) (count - 1)) }
+        ensures moved { IfOk result (λ place. self.new ≡ cursor_after (R.rows rows.now) self.old place) }
+        ensures unchanged { OnErr result (self.new ≡ self.old) }
+    {
+        let mut steps: Steps<L> = Steps::new(blank);
+        self.iterate_counted(alloc, rows, key, primary, count, &mut steps)
+    }
+}
+
+/// How a member stands to a key and a primary key.
+fn row_order(row: &Row, key: &Key, primary: &Key) -> Ordering
+    ensures { result ≡ row_cmp (row_of row.now) (key_tree_of key.now, key_tree_of primary.now) }
+{
+    match compare(&row.key, key) {
+        Ordering::Equal => compare(&row.primary, primary),
+        decided => decided,
+    }
+}
+
+/// The keys of a member that is kept.
+fn lent(place: &Option<Row>) -> Option<(&Key, &Key)>
+    ensures { option_map row_shown result ≡ option_map row_of place.now }
+{
+    match place {
+        Some(row) => Some((&row.key, &row.primary)),
+        None => None,
+    }
+}
+
+/// Copies of the keys of a member.
+fn copied(alloc: Global, member: Option<(&Key, &Key)>) -> Result<Option<Row>, NoMemory>
+    ensures { IfOk result (λ row. option_map row_of row ≡ option_map row_shown member.entry) }
+{
+    match member {
+        Some((key, primary)) => Ok(Some(Row {
+            key: key.copy(alloc)?,
+            primary: primary.copy(alloc)?,
+        })),
+        None => Ok(None),
     }
 }

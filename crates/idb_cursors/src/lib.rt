@@ -8,6 +8,10 @@
 mod cursor;
 mod row_view;
 mod seeking;
+mod turns;
 
 pub use cursor::Cursor;
-pub use row_view::RowView;
+pub use row_view::{RecordsShown, RowView, RowsShown};
+
+#[cfg(test)]
+mod tests;

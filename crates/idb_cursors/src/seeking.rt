@@ -1,12 +1,12 @@
 // The place of the member that a turn takes, found by halving.
-ghost use Rattle.std.specs.Prelude.{◌≡◌, ℕ, ◌+◌, ◌*◌, ◌^◌, ◌<◌, ◌≤◌, Some, length, slice_get, option_map};
+ghost use Rattle.std.specs.Prelude.{◌≡◌, ℕ, ◌+◌, ◌*◌, ◌^◌, ◌<◌, ◌≤◌, false, Some, length, slice_get, option_map};
 ghost use Rattle.clone_values.specs.View.{key_tree_of};
 ghost use Rattle.key_order.specs.KeyOrder.{key_cmp};
 ghost use Rattle.idb_keys.specs.KeyRange.{meets_lower, meets_upper};
 ghost use Rattle.index_tables.specs.Rows.{row_cmp};
 ghost use Rattle.index_tables.specs.Halves.{IsSplitAt};
 ghost use Rattle.idb_cursors.specs.Cursors.{is_forward, is_unique, toward, is_reached, is_passed, first_of_key, next_place, turns_from, iterated};
-ghost use Rattle.idb_cursors.specs.Seeking.{begins, ends, is_near, is_behind};
+ghost use Rattle.idb_cursors.specs.Seeking.{begins, ends, is_near, is_behind, place_within, nearest_place};
 ghost use Rattle.idb_cursors.specs.View.{row_shown, key_shown, turn_seen};
 
 use crate::row_view::RowView;
@@ -18,15 +18,16 @@ use std::cmp::Ordering;
 use std::sync::ledger::Ledger;
 
 /// What one turn goes by: which way, in which range and from which place, and the keys that are given.
-pub(crate) struct Turn<'a> {
+#[derive(Drop)]
+pub(crate) struct Turn<'a, 'b> {
     pub(crate) direction: Direction,
     pub(crate) range: &'a KeyRange,
-    pub(crate) place: Option<(&'a Key, &'a Key)>,
-    pub(crate) key: Option<&'a Key>,
-    pub(crate) primary: Option<&'a Key>,
+    pub(crate) place: Option<(&'b Key, &'b Key)>,
+    pub(crate) key: Option<&'b Key>,
+    pub(crate) primary: Option<&'b Key>,
 }
 
-fn is_forward(direction: Direction) -> bool
+pub(crate) fn is_forward(direction: Direction) -> bool
     ensures { result ≡ is_forward direction }
 {
     match direction {
@@ -37,7 +38,7 @@ fn is_forward(direction: Direction) -> bool
     }
 }
 
-fn is_unique(direction: Direction) -> bool
+pub(crate) fn is_unique(direction: Direction) -> bool
     ensures { result ≡ is_unique direction }
 {
     match direction {
@@ -48,8 +49,19 @@ fn is_unique(direction: Direction) -> bool
     }
 }
 
+/// An order as the direction meets it.
+pub(crate) fn toward(direction: Direction, order: Ordering) -> Ordering
+    ensures { result ≡ toward direction order }
+{
+    if is_forward(direction) {
+        order
+    } else {
+        order.reverse()
+    }
+}
+
 /// How two keys stand to each other as the direction meets them; one comparison.
-pub(crate) fn compared<L: Ledger>(
+fn compared<L: Ledger>(
     direction: Direction,
     a: &Key,
     b: &Key,
@@ -59,22 +71,17 @@ pub(crate) fn compared<L: Ledger>(
     ensures counted { steps.new ≡ steps.old + 1 }
 {
     steps.tick();
-    let order = compare(a, b);
-    if is_forward(direction) {
-        order
-    } else {
-        order.reverse()
-    }
+    toward(direction, compare(a, b))
 }
 
 /// The same of pairs, of which the first keys decide unless they tie; at most two comparisons.
-pub(crate) fn compared_pairs<L: Ledger>(
+fn compared_pairs<L: Ledger>(
     direction: Direction,
     a: (&Key, &Key),
     b: (&Key, &Key),
     steps: &mut Steps<L>,
 ) -> Ordering
-    ensures value { result ≡ toward direction (row_cmp (row_shown a) (row_shown b)) }
+    ensures value { result ≡ toward direction (row_cmp (row_shown a.entry) (row_shown b.entry)) }
     ensures counted { steps.new ≤ steps.old + 2 }
 {
     match compared(direction, a.0, b.0, steps) {
@@ -159,7 +166,7 @@ fn is_reached<L: Ledger>(
     member: (&Key, &Key),
     steps: &mut Steps<L>,
 ) -> bool
-    ensures value { result ≡ is_reached direction (key_shown key.entry) (key_shown primary.entry) (row_shown member) }
+    ensures value { result ≡ is_reached direction (key_shown key.entry) (key_shown primary.entry) (row_shown member.entry) }
     ensures counted { steps.new ≤ steps.old + 2 }
 {
     match (key, primary) {
@@ -182,7 +189,7 @@ fn is_passed<L: Ledger>(
     member: (&Key, &Key),
     steps: &mut Steps<L>,
 ) -> bool
-    ensures value { result ≡ is_passed direction (option_map row_shown place) (row_shown member) }
+    ensures value { result ≡ is_passed direction (option_map row_shown place.entry) (row_shown member.entry) }
     ensures counted { steps.new ≤ steps.old + 2 }
 {
     match place {
@@ -199,7 +206,7 @@ fn is_passed<L: Ledger>(
 
 /// Whether a member meets all that the turn asks but the bound on the other side; at most five comparisons.
 fn is_near<L: Ledger>(turn: &Turn, member: (&Key, &Key), steps: &mut Steps<L>) -> bool
-    ensures value { result ≡ is_near (turn_seen turn.now) (row_shown member) }
+    ensures value { result ≡ is_near (turn_seen turn.now) (row_shown member.entry) }
     ensures counted { steps.new ≤ steps.old + 5 }
 {
     is_passed(turn.direction, turn.place, member, steps)
@@ -243,4 +250,86 @@ fn split<R: RowView, L: Ledger>(rows: &R, turn: &Turn, steps: &mut Steps<L>) -> 
         }
     }
     low
+}
+
+/// The place, where a member stands there that meets the bound on the other side; at most one comparison.
+pub(crate) fn place_within<R: RowView, L: Ledger>(
+    rows: &R,
+    turn: &Turn,
+    place: usize,
+    steps: &mut Steps<L>,
+) -> Option<usize>
+    ensures value { result ≡ place_within (R.rows rows.now) (turn_seen turn.now) place }
+    ensures counted { steps.new ≤ steps.old + 1 }
+{
+    match rows.at(place) {
+        Some((key, _)) => {
+            if ends(turn.direction, turn.range, key, steps) {
+                Some(place)
+            } else {
+                None
+            }
+        }
+        None => None,
+    }
+}
+
+/// The place of the first or the last member that meets what the turn asks.
+fn nearest<R: RowView, L: Ledger>(rows: &R, turn: &Turn, steps: &mut Steps<L>) -> Option<usize>
+    ensures value { result ≡ nearest_place (R.rows rows.now) (turn_seen turn.now) }
+    ensures cost { (d : ℕ) → length (R.rows rows.now) < 2 ^ d → steps.new ≤ steps.old + (5 * d + 1) }
+{
+    let place = split(rows, turn, steps);
+    if is_forward(turn.direction) {
+        place_within(rows, turn, place, steps)
+    } else if place == 0 {
+        None
+    } else {
+        place_within(rows, turn, place - 1, steps)
+    }
+}
+
+/// The place of the first member that has the key of the one at this place.
+fn first_of_key<R: RowView, L: Ledger>(
+    rows: &R,
+    place: usize,
+    steps: &mut Steps<L>,
+) -> Option<usize>
+    ensures value { result ≡ first_of_key (R.rows rows.now) place }
+    ensures cost { (d : ℕ) → length (R.rows rows.now) < 2 ^ d → steps.new ≤ steps.old + 5 * d }
+{
+    match rows.at(place) {
+        Some((key, _)) => {
+            let all = KeyRange::all();
+            let turn = Turn {
+                direction: Direction::NextUnique,
+                range: &all,
+                place: None,
+                key: Some(key),
+                primary: None,
+            };
+            Some(split(rows, &turn, steps))
+        }
+        None => None,
+    }
+}
+
+/// The place of the member that one turn takes.
+pub(crate) fn next_place<R: RowView, L: Ledger>(
+    rows: &R,
+    turn: &Turn,
+    steps: &mut Steps<L>,
+) -> Option<usize>
+    ensures value { result ≡ next_place (R.rows rows.now) (turn_seen turn.now) }
+    ensures cost { (d : ℕ) → length (R.rows rows.now) < 2 ^ d → steps.new ≤ steps.old + (10 * d + 1) }
+{
+    match nearest(rows, turn, steps) {
+        Some(place) => match turn.direction {
+            Direction::Next => Some(place),
+            Direction::NextUnique => Some(place),
+            Direction::Prev => Some(place),
+            Direction::PrevUnique => first_of_key(rows, place, steps),
+        },
+        None => None,
+    }
 }

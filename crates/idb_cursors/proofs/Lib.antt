@@ -1,0 +1,5 @@
+pub mod Costs
+pub mod Directions
+pub mod Further
+pub mod Nearest
+pub mod Positions
