@@ -58,6 +58,19 @@ module _ (records : Records) (k : KeyTree) (v : Tree) where
   pub there : get (insert records k v) k ≡ Some v
   there = get-insert key_cmp_total records k v k ∙ ap (λ o. cond (is_eq o) (Some v) (get records k)) (tied_itself key_cmp_total k)
 
+-- behind a place of the past stands what stood there, or else what is now
+snoc_at : (past : List Content) (d c : Content) (place : ℕ) → (content_at (past ++ d ∷ []) c place ≡ content_at past d place) ⊎ (content_at (past ++ d ∷ []) c place ≡ c)
+unfolding content_at
+snoc_at [] d c zero = inl refl
+snoc_at [] d c (suc place) = inr refl
+snoc_at (p ∷ past) d c zero = inl refl
+snoc_at (p ∷ past) d c (suc place) = snoc_at past d c place
+
+none_at : (c : Content) (place : ℕ) → content_at [] c place ≡ c
+unfolding content_at
+none_at c zero = refl
+none_at c (suc place) = refl
+
 module _ {T R W : Type 0} where
   pub log_pushed : (c : Change T R W) (old new : Parts T R W) → new.log.items ≡ old.log.items ++ c ∷ [] → log_in new ≡ c ∷ log_in old
   log_pushed c old new e = ap reverse e ∙ reverse-append old.log.items (c ∷ [])
@@ -131,19 +144,6 @@ module _ {T R W : Type 0} where
   same_auto (change.Cleared emptied removed rows) content = refl
   same_auto change.IndexAdded content = refl
   same_auto (change.IndexDropped dropped) content = refl
-
-  -- behind a place of the past stands what stood there, or else what is now
-  snoc_at : (past : List Content) (d c : Content) (place : ℕ) → (content_at (past ++ d ∷ []) c place ≡ content_at past d place) ⊎ (content_at (past ++ d ∷ []) c place ≡ c)
-  unfolding content_at
-  snoc_at [] d c zero = inl refl
-  snoc_at [] d c (suc place) = inr refl
-  snoc_at (p ∷ past) d c zero = inl refl
-  snoc_at (p ∷ past) d c (suc place) = snoc_at past d c place
-
-  none_at : (c : Content) (place : ℕ) → content_at [] c place ≡ c
-  unfolding content_at
-  none_at c zero = refl
-  none_at c (suc place) = refl
 
   auto_at : (log : List (Change T R W)) (content : Content) (place : ℕ) → (content_at (past_of log content) content place).info.auto ≡ content.info.auto
   auto_at [] content place = ap (λ (x : Content). x.info.auto) (none_at content place)

@@ -83,6 +83,6 @@ some_there records place h none = elim (slice_get_cases (entries records) place)
 ]
 
 -- what is known of the record of a key at a place holds of whatever stands there
-pub one_value : (es : List (KeyTree × Tree)) (place : ℕ) (j k : KeyTree) (u v w : Tree) (rows : List (List RowTree)) {is : List IndexInfo} → slice_get es place ≡ Some (j, u) → slice_get es place ≡ Some (k, v)
+pub one_value : (es : List (KeyTree × Tree)) (place : ℕ) (j k : KeyTree) (u v w : Tree) (rows : List (List RowTree)) (is : List IndexInfo) → slice_get es place ≡ Some (j, u) → slice_get es place ≡ Some (k, v)
     → rows ≡ rows_in_indexes is j w → rows ≡ rows_in_indexes is k w
-one_value es place j k u v w rows {is} a b are = are ∙ ap (λ x. rows_in_indexes is x w) (one_record es place j k u v a b).0
+one_value es place j k u v w rows is a b are = are ∙ ap (λ x. rows_in_indexes is x w) (one_record es place j k u v a b).0

@@ -18,11 +18,11 @@ use Rattle.index_tables.specs.Unique.{is_broken}
 use Rattle.object_stores.specs.Store.{Store, Content, content_of}
 
 -- the key is in range and at most 100 deep; the value is well formed, and can be cloned
-pub record IsStored (key : KeyTree) (value : Tree) : Type 0 where
-  pub key : IsKey key
-  pub depth : key_depth key ≤ GREATEST_DEPTH
-  pub value : IsValue value
-  pub cloneable : IsCloneable value
+pub record IsStored (k : KeyTree) (v : Tree) : Type 0 where
+  pub key : IsKey k
+  pub depth : key_depth k ≤ GREATEST_DEPTH
+  pub value : IsValue v
+  pub cloneable : IsCloneable v
 
 -- from 1 to 2^53 + 1, and 1 in a store without a generator
 abbrev pub IsCurrent : Bool → ℕ → Type 0

@@ -54,7 +54,7 @@ pub record IsOff {T R W : Type 0} (c : Change T R W) (parts : Parts T R W) : Typ
   pub rows : parts.rows ≡ needed_rows (c ∷ log_in parts)
 
 -- the parts fit together, and so do the generator's number now and the one at the last settle
-pub record IsVersion {T R W : Type 0} (parts : Parts T R W) (current settled : ℕ) : Type 0 where
+pub record IsVersion {T R W : Type 0} (parts : Parts T R W) (n m : ℕ) : Type 0 where
   pub sound : IsSound parts
-  pub current : IsCurrent parts.contents.info.auto current
-  pub settled : IsCurrent parts.contents.info.auto settled
+  pub current : IsCurrent parts.contents.info.auto n
+  pub settled : IsCurrent parts.contents.info.auto m

@@ -92,10 +92,10 @@ ComesWithKey path auto value (Some key) = IsKey key × (key_depth key ≤ GREATE
 ComesWithKey path auto value None = HasKey path auto value (in_line path value)
 
 -- the value is well formed and can be cloned, and it comes with a key; the path and the generator are those of the store
-pub record CanStore (path : Option PathSpec) (auto : Bool) (value : Tree) (key : Option KeyTree) : Type 0 where
-  pub value : IsValue value
-  pub cloneable : IsCloneable value
-  pub key : ComesWithKey path auto value key
+pub record CanStore (path : Option PathSpec) (auto : Bool) (v : Tree) (k : Option KeyTree) : Type 0 where
+  pub value : IsValue v
+  pub cloneable : IsCloneable v
+  pub key : ComesWithKey path auto v k
 
 -- the key and the store after it, or ConstraintError
 pub data Outcome : Type 0 where

@@ -1,9 +1,12 @@
 // The key under which a value is stored.
-ghost use Rattle.std.specs.Prelude.{◌≡◌, true, None, option_map, IfOk, IfSome};
+ghost use Rattle.std.specs.Prelude.{◌≡◌, ◌≤◌, true, false, option_map, IfOk, IfSome};
 ghost use Rattle.clone_values.specs.View.{key_tree_of, tree_of};
 ghost use Rattle.clone_values.specs.Values.{IsCloneable};
 ghost use Rattle.clone_values.specs.WellFormed.{IsValue};
-ghost use Rattle.key_paths.specs.Evaluation.{failure};
+ghost use Rattle.idb_base.specs.declared.limits.TheConstants.{GREATEST_DEPTH};
+ghost use Rattle.clone_values.specs.KeyValues.{IsKey, key_depth};
+ghost use Rattle.key_paths.specs.Evaluation.{failure, extracted};
+ghost use Rattle.key_paths.specs.Injection.{can_inject, has_room_for, injected};
 ghost use Rattle.object_stores.specs.IsStore.{IsCurrent, IsStored};
 ghost use Rattle.object_stores.specs.Storing.{noted, in_line, key_found, generated, entry_for, CanInject, CanStore};
 ghost use Rattle.object_stores.specs.View.{entry_seen};
@@ -13,6 +16,7 @@ use idb_base::NoMemory;
 use idb_schema::StoreInfo;
 use key_generators::{Generator, generator_laws};
 use key_paths::{Extracted, conversion_laws, extract, extraction_laws, inject, injection_laws};
+use path_grammar::KeyPath;
 use std::alloc::Global;
 
 /// The key that is given, that stands in the value or that the generator gives, and the value with it. There is none where
@@ -67,15 +71,26 @@ fn key_in_line(alloc: Global, info: &StoreInfo, value: &Value) -> Result<Option<
 {
     match &info.path {
         None => Ok(None),
-        Some(path) => {
-            path.spec();
-            match extract(alloc, path, false, value)? {
-                Extracted::One(key) => Ok(Some(key)),
-                Extracted::Many(_) => Ok(None),
-                Extracted::Invalid => Ok(None),
-                Extracted::Failure => Ok(None),
-            }
-        }
+        Some(path) => key_at(alloc, path, value),
+    }
+}
+
+/// The key that this path gives, if it gives one.
+fn key_at(alloc: Global, path: &KeyPath, value: &Value) -> Result<Option<Key>, NoMemory>
+    requires { IsValue (tree_of value.now) }
+    ensures key { IfOk result (λ k. option_map key_tree_of k
+        ≡ key_found (extracted path.now false (tree_of value.now))) }
+    ensures fits { IfOk result (λ k. IfSome k (λ k. IsKey (key_tree_of k)
+        × (key_depth (key_tree_of k) ≤ GREATEST_DEPTH))) }
+{
+    extraction_laws();
+    conversion_laws();
+    let _spec = path.spec();
+    match extract(alloc, path, false, value)? {
+        Extracted::One(key) => Ok(Some(key)),
+        Extracted::Many(_) => Ok(None),
+        Extracted::Invalid => Ok(None),
+        Extracted::Failure => Ok(None),
     }
 }
 
@@ -87,6 +102,7 @@ fn generate(
     value: Value,
 ) -> Result<Option<(Key, Value)>, NoMemory>
     requires auto { info.now.auto ≡ true }
+    requires current { IsCurrent info.now.auto generator.old }
     requires place { CanInject info.now.path (tree_of value) }
     requires absent { in_line info.now.path (tree_of value) ≡ failure }
     requires fits { IsValue (tree_of value) }
@@ -103,11 +119,29 @@ fn generate(
             match &info.path {
                 None => Ok(Some((key, value))),
                 Some(path) => {
-                    let mut value = value;
-                    inject(alloc, path, &mut value, &key)?;
+                    let value = with_key_in(alloc, path, value, &key)?;
                     Ok(Some((key, value)))
                 }
             }
         }
     }
+}
+
+/// The value with the key at the end of the path.
+fn with_key_in(alloc: Global, path: &KeyPath, value: Value, key: &Key) -> Result<Value, NoMemory>
+    requires possible { can_inject path.now (tree_of value) ≡ true }
+    requires room { has_room_for path.now (tree_of value) ≡ true }
+    requires absent { extracted path.now false (tree_of value) ≡ failure }
+    requires fits { IsValue (tree_of value) }
+    requires cloneable { IsCloneable (tree_of value) }
+    requires key { IsKey (key_tree_of key.now) }
+    requires flat { key_depth (key_tree_of key.now) ≤ 1 }
+    ensures value { IfOk result (λ v. tree_of v ≡ injected path.now (tree_of value) (key_tree_of key.now)) }
+    ensures fits { IfOk result (λ v. IsStored (key_tree_of key.now) (tree_of v)) }
+{
+    injection_laws();
+    let _spec = path.spec();
+    let mut value = value;
+    inject(alloc, path, &mut value, key)?;
+    Ok(value)
 }

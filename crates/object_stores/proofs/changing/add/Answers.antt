@@ -20,7 +20,7 @@ returns-clause-sound g c =
     let same = ap key_tree_of c.requires.key in
     let e = c.put_at.ensures in
     let fine = fine_now (log_in old) (content_in old) c.requires.sound.undo in
-    sound_pushed (change.Added c.args.key_copy c.args.rows_copy) old _ c.note.ensures
+    sound_pushed (change.Added c.args.key_copy c.args.rows_copy) old _ c.note.ensures.items
     (added_back (content_in old) _ k v e.info e.records _ same c.requires.gap.absent) c.requires.sound
     (subst IsContent (λ i. record { info = sym e.info i; records = sym e.records i }) (fine_insert (content_in old) fine k v c.requires.fits c.requires.unique))
     (added_can (content_in old) _ k v e.info e.records _ same c.args.rows_copy (c.requires.copy ∙ c.requires.rows))
@@ -31,5 +31,5 @@ pub returns-clause-past : goal.returns-clause-past
 returns-clause-past g c =
     let old = c.args.parts.now in
     let e = c.put_at.ensures in
-    past_pushed (change.Added c.args.key_copy c.args.rows_copy) old (record { contents = c.put_at.new.self; log = c.note.new.log; removed = old.removed; rows = old.rows }) c.note.ensures
+    past_pushed (change.Added c.args.key_copy c.args.rows_copy) old (record { contents = c.put_at.new.self; log = c.note.new.log; removed = old.removed; rows = old.rows }) c.note.ensures.items
     (added_back (content_in old) _ (key_tree_of c.args.key) (tree_of c.args.value) e.info e.records _ (ap key_tree_of c.requires.key) c.requires.gap.absent)

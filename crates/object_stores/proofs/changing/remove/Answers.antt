@@ -19,7 +19,7 @@ returns-clause-sound g c =
     let v = tree_of c.take_out-key.result.1 in
     let e = c.take_out-key.ensures in
     let fine = fine_now (log_in old) (content_in old) c.requires.sound.undo in
-    sound_pushed (change.Removed c.take_out-key.result.0 c.take_out-key.result.1 c.args.rows) old _ c.note.ensures
+    sound_pushed (change.Removed c.take_out-key.result.0 c.take_out-key.result.1 c.args.rows) old _ c.note.ensures.items
     (removed_back (content_in old) _ k v e.info e.records e.taken.found) c.requires.sound
     (subst IsContent (λ i. record { info = sym e.info i; records = sym e.records i })
         (fine_records (content_in old) fine (remove old.contents.records k) (stored_remove old.contents.records k fine.records) (c.unique_laws.ensures.kept old.contents.info.indexes old.contents.records k fine.unique)))
@@ -38,7 +38,7 @@ pub returns-clause-past : goal.returns-clause-past
 returns-clause-past g c =
     let old = c.args.parts.now in
     let e = c.take_out-key.ensures in
-    past_pushed (change.Removed c.take_out-key.result.0 c.take_out-key.result.1 c.args.rows) old (record { contents = c.take_out-key.new.self; log = c.note.new.log; removed = old.removed + 1; rows = old.rows + c.count.result }) c.note.ensures
+    past_pushed (change.Removed c.take_out-key.result.0 c.take_out-key.result.1 c.args.rows) old (record { contents = c.take_out-key.new.self; log = c.note.new.log; removed = old.removed + 1; rows = old.rows + c.count.result }) c.note.ensures.items
     (removed_back (content_in old) _ (key_tree_of c.take_out-key.result.0) (tree_of c.take_out-key.result.1) e.info e.records e.taken.found)
 
 pub returns-clause-fewer : goal.returns-clause-fewer

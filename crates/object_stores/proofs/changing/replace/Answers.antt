@@ -7,17 +7,11 @@ use Rattle.object_stores.specs.declared.changes.Parts.{Parts}
 use Rattle.object_stores.proofs.Logged.{sound_pushed, past_pushed, fine_now}
 use Rattle.object_stores.proofs.Back.{replaced_back, replaced_can}
 use Rattle.object_stores.proofs.Fine.{fine_insert}
-use Rattle.object_stores.proofs.Off.{place_within, one_value}
+use Rattle.object_stores.proofs.Off.{place_within}
 use Rattle.object_stores.proofs.changing.replace.Goals as goal
 
-pub replace_at-requires-clause-within : goal.replace_at-requires-clause-within
-replace_at-requires-clause-within g c = place_within c.args.parts.now.contents.records c.args.place _ c.requires.there.1.stands
-
-pub replace_at-requires-clause-new_rows : goal.replace_at-requires-clause-new_rows
-replace_at-requires-clause-new_rows g c k v at = one_value _ c.args.place _ k _ v (tree_of c.args.value) c.args.rows c.requires.there.1.stands at c.requires.rows
-
-pub replace_at-requires-clause-rooms : goal.replace_at-requires-clause-rooms
-replace_at-requires-clause-rooms g c = omega (arith, c.requires.ready.rows)
+pub replace_at-old-requires-clause-within : goal.replace_at-old-requires-clause-within
+replace_at-old-requires-clause-within g c = λ κs h. place_within c.args.parts.now.contents.records c.args.place _ c.requires.there.1.stands
 
 pub returns-clause-sound : goal.returns-clause-sound
 returns-clause-sound g c =
@@ -30,7 +24,7 @@ returns-clause-sound g c =
     let records = e.records k w at.stands in
     let given = e.given k w at.stands in
     let fine = fine_now (log_in old) (content_in old) c.requires.sound.undo in
-    sound_pushed (change.Replaced c.args.key c.replace_at-old.result c.args.old_rows c.args.rows_copy) old _ c.note.ensures
+    sound_pushed (change.Replaced c.args.key c.replace_at-old.result c.args.old_rows c.args.rows_copy) old _ c.note.ensures.items
     (replaced_back (content_in old) _ k v e.info records w at.found _ given) c.requires.sound
     (subst IsContent (λ i. record { info = sym e.info i; records = sym records i }) (fine_insert (content_in old) fine k v c.requires.fits c.requires.unique))
     (replaced_can (content_in old) _ k v e.info records w c.args.old_rows c.args.rows_copy (c.requires.old_rows k w at.stands) (c.requires.copy ∙ c.requires.rows) _ given)
@@ -49,5 +43,5 @@ returns-clause-past g c =
     let k = key_tree_of c.args.key in
     let w = c.requires.there.0 in
     let at = c.requires.there.1 in
-    past_pushed (change.Replaced c.args.key c.replace_at-old.result c.args.old_rows c.args.rows_copy) old (record { contents = c.replace_at-old.new.self; log = c.note.new.log; removed = old.removed; rows = old.rows + c.count.result }) c.note.ensures
+    past_pushed (change.Replaced c.args.key c.replace_at-old.result c.args.old_rows c.args.rows_copy) old (record { contents = c.replace_at-old.new.self; log = c.note.new.log; removed = old.removed; rows = old.rows + c.count.result }) c.note.ensures.items
     (replaced_back (content_in old) _ k (tree_of c.args.value) e.info (e.records k w at.stands) w at.found _ (e.given k w at.stands))

@@ -18,7 +18,7 @@ returns-in-Ok-clause-sound g c =
     let info = c.in-Ok.ensures.info in
     let records = c.add_index.ensures.records in
     let fine = fine_now (log_in old) (content_in old) c.requires.sound.undo in
-    sound_pushed change.IndexAdded old _ c.note.ensures
+    sound_pushed change.IndexAdded old _ c.note.ensures.items
     (λ i. record { info = (ap info_without_last info ∙ last_gone old.contents.info c.args.info) i; records = records i })
     c.requires.sound
     (subst IsContent (λ i. record { info = sym info i; records = sym records i }) (fine_index (content_in old) fine c.args.info c.requires.fits c.requires.new_name c.in-Ok.ensures.unique))
@@ -31,4 +31,4 @@ returns-in-Ok-clause-past g c =
     let old = c.args.parts.now in
     let new : Parts _ _ _ = record { contents = c.add_index.new.self; log = c.note.new.log; removed = old.removed; rows = old.rows } in
     keeps_pushed (past_in old) (past_in new) (content_in old) (content_in new)
-    (past_pushed change.IndexAdded old new c.note.ensures (λ i. record { info = (ap info_without_last c.in-Ok.ensures.info ∙ last_gone old.contents.info c.args.info) i; records = c.add_index.ensures.records i }))
+    (past_pushed change.IndexAdded old new c.note.ensures.items (λ i. record { info = (ap info_without_last c.in-Ok.ensures.info ∙ last_gone old.contents.info c.args.info) i; records = c.add_index.ensures.records i }))

@@ -23,7 +23,7 @@ returns-clause-sound g c =
     let less = one_less indexes c.args.place within in
     let fewer : length c.drop_index.new.self.info.indexes ≡ length (remove indexes c.args.place) = ap (λ (x : StoreInfo). length x.indexes) e.info in
     let fine = fine_now (log_in mid) (content_in mid) c.ready.ensures.sound.undo in
-    sound_pushed (change.IndexDropped d) mid _ c.note.ensures
+    sound_pushed (change.IndexDropped d) mid _ c.note.ensures.items
     (λ i. record { info = (ap (λ x. info_with_index_at x d.place d.index) e.info ∙ ap (λ p. info_with_index_at (info_without_index mid.contents.info c.args.place) p d.index) e.place ∙ back_again mid.contents.info c.args.place d.index e.index) i; records = c.drop_index.ensures.records i })
     c.ready.ensures.sound
     (subst IsContent (λ i. record { info = sym e.info i; records = sym c.drop_index.ensures.records i }) (fine_no_index (content_in mid) fine c.args.place))
@@ -39,5 +39,5 @@ returns-clause-past g c =
     let e = c.in_ok-dropped.ensures in
     let new : Parts _ _ _ = record { contents = c.drop_index.new.self; log = c.note.new.log; removed = mid.removed; rows = mid.rows } in
     keeps_logged c.args.parts.now mid new c.ready.ensures.log c.ready.ensures.content
-    (past_pushed (change.IndexDropped d) mid new c.note.ensures
+    (past_pushed (change.IndexDropped d) mid new c.note.ensures.items
     (λ i. record { info = (ap (λ x. info_with_index_at x d.place d.index) e.info ∙ ap (λ p. info_with_index_at (info_without_index mid.contents.info c.args.place) p d.index) e.place ∙ back_again mid.contents.info c.args.place d.index e.index) i; records = c.drop_index.ensures.records i }))

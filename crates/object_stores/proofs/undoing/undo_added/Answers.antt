@@ -5,7 +5,7 @@ use Rattle.object_stores.proofs.Off.{place_within, one_record, sound_off}
 use Rattle.object_stores.proofs.undoing.undo_added.Goals as goal
 
 pub take_out-requires-clause-within : goal.take_out-requires-clause-within
-take_out-requires-clause-within g c = place_within c.args.parts.now.contents.records c.in-Ok.place _ c.in-Ok.ensures.found.1.stands
+take_out-requires-clause-within g c = λ κs h. place_within c.args.parts.now.contents.records c.in-Ok.place _ c.in-Ok.ensures.found.1.stands
 
 pub returns-clause-sound : goal.returns-clause-sound
 returns-clause-sound g c =

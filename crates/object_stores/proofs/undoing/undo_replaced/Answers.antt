@@ -6,10 +6,10 @@ use Rattle.object_stores.proofs.Off.{place_within, one_value, sound_off}
 use Rattle.object_stores.proofs.undoing.undo_replaced.Goals as goal
 
 pub replace_at-requires-clause-within : goal.replace_at-requires-clause-within
-replace_at-requires-clause-within g c = place_within c.args.parts.now.contents.records c.in-Ok.place _ c.in-Ok.ensures.found.1.stands
+replace_at-requires-clause-within g c = λ κs h. place_within c.args.parts.now.contents.records c.in-Ok.place _ c.in-Ok.ensures.found.1.stands
 
 pub replace_at-requires-clause-new_rows : goal.replace_at-requires-clause-new_rows
-replace_at-requires-clause-new_rows g c k v at = one_value _ c.in-Ok.place _ k _ v (tree_of c.args.value) c.args.rows c.in-Ok.ensures.found.1.stands at c.requires.undo.1.3
+replace_at-requires-clause-new_rows g c = λ κs h k v at. one_value _ c.in-Ok.place _ k _ v (tree_of c.args.value) c.args.rows _ c.in-Ok.ensures.found.1.stands at c.requires.undo.1.3
 
 pub replace_at-requires-clause-rooms : goal.replace_at-requires-clause-rooms
 replace_at-requires-clause-rooms g c = omega (arith, c.requires.spare.1)
