@@ -6,7 +6,5 @@ pub mod Walks
 pub mod Lists
 pub mod ClashLaws
 pub mod NewIndex
-pub mod Splitting
-pub mod Rising
-pub mod MemberLemmas
+pub mod RecordPlaces
 pub mod Laws

@@ -1,9 +1,9 @@
--- Where the members of a range begin and end.
+-- Where the members that meet a lower bound begin.
 --     Splits                a place splits a list by a test: all before it fail, and all from it on pass
---     IsFirstFrom, IsPastLast       the first member that meets a lower bound; the first that no longer meets an upper bound
+--     IsFirstFrom           the first member that meets a lower bound
 use Rattle.std.specs.Prelude.{◌≤◌, ℕ, Bool, not, List, Option, length, take, drop}
 use Rattle.std.specs.List.{AllPass}
-use Rattle.idb_keys.specs.KeyRange.{Bound, meets_lower, meets_upper}
+use Rattle.idb_keys.specs.KeyRange.{Bound, meets_lower}
 use Rattle.index_tables.specs.Rows.{RowTree}
 
 pub record Splits {A : Type 0} (test : A → Bool) (members : List A) (place : ℕ) : Type 0 where
@@ -13,6 +13,3 @@ pub record Splits {A : Type 0} (test : A → Bool) (members : List A) (place : �
 
 abbrev pub IsFirstFrom : Option Bound → List RowTree → ℕ → Type 0
 IsFirstFrom lower members place = Splits (λ m. meets_lower lower m.0) members place
-
-abbrev pub IsPastLast : Option Bound → List RowTree → ℕ → Type 0
-IsPastLast upper members place = Splits (λ m. not (meets_upper upper m.0)) members place

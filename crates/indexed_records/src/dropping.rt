@@ -34,7 +34,13 @@ impl<T: Tables> Model for Dropped<T> {
 
     ghost coded = { Prim.hlevel (codes, rows_code) };
 
-    ghost view = { λ a. record { place = a.place; index = a.index; rows = a.table.rows; spare = a.spare; width = a.width } };
+    ghost view = { λ a. record {
+      place = a.place;
+      index = a.index;
+      rows = a.table.rows;
+      spare = a.spare;
+      width = a.width;
+    } };
 
     ghost invariant = { λ a. (a.infos.items ≡ []) × (a.tables.items ≡ []) × (a.width ≤ vec_capacity a.infos)
       × (a.width ≤ vec_capacity a.tables) × (a.spare ≤ a.table.spare) };

@@ -49,7 +49,8 @@ pub(crate) fn make_room<T: Tables>(
 ) -> Result<(), NoMemory>
     ensures kept { (records : Records) (spare : ℕ) → InStep indexes.now tables.old.items records spare
         → InStep indexes.now tables.new.items records spare }
-    ensures room { OnOk result ((records : Records) (spare : ℕ) → InStep indexes.now tables.old.items records spare
+    ensures room { OnOk result ((records : Records) (spare : ℕ)
+        → InStep indexes.now tables.old.items records spare
         → InStep indexes.now tables.new.items records rows) }
 {
     complete(alloc, indexes, tables)?;
@@ -63,7 +64,8 @@ fn reserve_each<T: Tables>(
     rows: usize,
 ) -> Result<(), NoMemory>
     ensures kept { AllChanged Keeps tables.old.items tables.old.items tables.new.items }
-    ensures room { OnOk result (AllChanged (HasRoomFor rows) tables.old.items tables.old.items tables.new.items) }
+    ensures room { OnOk result (AllChanged (HasRoomFor rows) tables.old.items tables.old.items
+        tables.new.items) }
 {
     reserve_in(tables.as_mut_slice(), rows)
 }

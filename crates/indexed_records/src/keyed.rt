@@ -34,10 +34,12 @@ pub(crate) fn replace_record<R: OrderedTable<Key, Value>>(
 ) -> Value
     requires { place < finite.len (records_of (R.entries records.old)) }
     ensures given { (k : KeyTree) (v : Tree)
-        → slice_get (finite.entries (records_of (R.entries records.old))) place ≡ Some (k, v) → tree_of result ≡ v }
+        → slice_get (finite.entries (records_of (R.entries records.old))) place ≡ Some (k, v)
+        → tree_of result ≡ v }
     ensures records { (k : KeyTree) (v : Tree)
         → slice_get (finite.entries (records_of (R.entries records.old))) place ≡ Some (k, v)
-        → records_of (R.entries records.new) ≡ finite.insert (records_of (R.entries records.old)) k (tree_of value) }
+        → records_of (R.entries records.new)
+        ≡ finite.insert (records_of (R.entries records.old)) k (tree_of value) }
     ensures spare { R.spare records.new ≡ R.spare records.old }
 {
     records.replace(place, value)
@@ -49,7 +51,8 @@ pub(crate) fn take_record<R: OrderedTable<Key, Value>>(
     place: usize,
 ) -> (Key, Value)
     requires { place < finite.len (records_of (R.entries records.old)) }
-    ensures taken { IsRecordAt (records_of (R.entries records.old)) place (key_tree_of result.0) (tree_of result.1) }
+    ensures taken { IsRecordAt (records_of (R.entries records.old)) place
+        (key_tree_of result.0) (tree_of result.1) }
     ensures left { records_of (R.entries records.new)
         ≡ finite.remove (records_of (R.entries records.old)) (key_tree_of result.0) }
     ensures spare { R.spare records.old ≤ R.spare records.new }

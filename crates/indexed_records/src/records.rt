@@ -52,7 +52,8 @@ impl<T: Tables> Model for IndexedRecords<T> {
       row_spare = a.row_spare;
     } };
 
-    ghost invariant = { λ a. InStep a.info.indexes a.tables.items (records_of (T.Records.entries a.records)) a.row_spare };
+    ghost invariant = { λ a. InStep a.info.indexes a.tables.items
+      (records_of (T.Records.entries a.records)) a.row_spare };
 }
 
 impl<T: Tables> IndexedRecords<T> {

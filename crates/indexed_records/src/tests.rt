@@ -1,7 +1,7 @@
 use super::*;
 use clone_values::{Key, PathSpec, Text, Value};
 use idb_base::NoMemory;
-use idb_keys::{KeyRange, Over};
+use idb_keys::Over;
 use idb_schema::{IndexInfo, IndexInfos, StoreInfo};
 use index_tables::FlatTables;
 use path_grammar::KeyPath;
@@ -9,9 +9,6 @@ use std::alloc::Global;
 use std::test::Fail;
 
 type Store = IndexedRecords<FlatTables>;
-
-/// A bound's key, and whether it is open.
-type Place = Option<(i64, bool)>;
 
 /// One call, or one that is undone at once. A record is a text under a number; the index takes the length of the text.
 #[derive(Clone, Copy)]
@@ -75,6 +72,9 @@ fn take(store: &mut Store, key: i64) -> Result<&'static str, NoMemory> {
         Ok(place) => match store.record_at(place) {
             Some((key, value)) => {
                 let rows = store.rows_for(key, value)?;
+                if store.len() <= place {
+                    return Ok("? ");
+                }
                 let _ = store.take_out(place, &rows);
                 Ok("taken ")
             }
@@ -211,159 +211,5 @@ fn rows_follow_the_records(rt: HostRuntime) -> Result<(), Fail> {
             "5:5 7:7 8:8 | 2:8 3:5 4:7 | taken none 5:5 8:8 | 2:8 3:5 | | | new 1:1 | 1:1 | "
         )
     );
-    Ok(())
-}
-
-// ---- readers
-/// The range of these bounds; `None` where there are none, or where they exclude each other.
-fn range_of(lower: Place, upper: Place) -> Option<KeyRange> {
-    match (lower, upper) {
-        (Some((low, low_open)), Some((high, high_open))) => {
-            KeyRange::bound(Key::Number(low), Key::Number(high), low_open, high_open).ok()
-        }
-        (Some((low, open)), None) => Some(KeyRange::lower(Key::Number(low), open)),
-        (None, Some((high, open))) => Some(KeyRange::upper(Key::Number(high), open)),
-        (None, None) => None,
-    }
-}
-
-fn push_text(text: &mut String, value: Option<&Value>) -> Result<(), Fail> {
-    match value {
-        Some(Value::Text(s)) => write!(text, " {}", s.as_str())?,
-        _ => write!(text, " -")?,
-    }
-    Ok(())
-}
-
-fn push_key(text: &mut String, key: Option<&Key>) -> Result<(), Fail> {
-    match key {
-        Some(Key::Number(n)) => write!(text, " {n}")?,
-        _ => write!(text, " -")?,
-    }
-    Ok(())
-}
-
-/// The number, the keys and the values of a range, or of the first so many.
-fn push_all(
-    alloc: Global,
-    text: &mut String,
-    store: &Store,
-    over: Over,
-    range: Option<&KeyRange>,
-    limit: u32,
-) -> Result<(), Fail> {
-    write!(text, "{}:", count(store, over, range))?;
-    let keys = get_all_keys(alloc, store, over, range, limit)?;
-    for place in 0..keys.len() {
-        push_key(text, keys.at(place))?;
-    }
-    let items = get_all(alloc, store, over, range, limit)?;
-    for place in 0..items.len() {
-        push_text(text, items.at(place))?;
-    }
-    write!(text, " / ")?;
-    Ok(())
-}
-
-/// The key and the value of the first of a range.
-fn push_first(
-    alloc: Global,
-    text: &mut String,
-    store: &Store,
-    over: Over,
-    range: &KeyRange,
-) -> Result<(), Fail> {
-    push_key(text, get_key(alloc, store, over, range)?.as_ref())?;
-    push_text(text, get(alloc, store, over, range)?.as_ref())?;
-    write!(text, " / ")?;
-    Ok(())
-}
-
-/// Where, the bounds, and the limit.
-static ROWS: [(Over, Place, Place, u32); 18] = [
-    (Over::Store, None, None, 0),
-    (Over::Store, Some((20, false)), None, 0),
-    (Over::Store, Some((20, true)), None, 0),
-    (Over::Store, Some((21, true)), None, 0),
-    (Over::Store, None, Some((30, false)), 0),
-    (Over::Store, None, Some((30, true)), 0),
-    (Over::Store, Some((20, false)), Some((30, false)), 0),
-    (Over::Store, Some((20, true)), Some((30, true)), 0),
-    (Over::Store, Some((25, false)), Some((25, false)), 0),
-    (Over::Store, Some((41, false)), None, 0),
-    (Over::Store, None, None, 1),
-    (Over::Store, Some((20, false)), None, 2),
-    (Over::Index(0), None, None, 0),
-    (Over::Index(0), Some((2, false)), Some((2, false)), 0),
-    (Over::Index(0), Some((2, true)), None, 0),
-    (Over::Index(0), None, Some((2, false)), 2),
-    (Over::Index(0), Some((4, false)), None, 0),
-    (Over::Index(1), None, None, 0),
-];
-
-/// Open and closed bounds, ranges past either end, limits, an index of which two rows have one key, and one that isn't
-/// there.
-#[test]
-fn ranges_are_read_as_stated(rt: HostRuntime) -> Result<(), Fail> {
-    let alloc = rt.alloc();
-    let mut store = empty_store(alloc)?;
-    let mut text = String::new(alloc);
-    let _ = add_index(alloc, &mut store, false)?;
-    for (key, value) in [(10, "ab"), (20, "c"), (30, "de"), (40, "fgh")] {
-        let value = Value::Text(Text::copy_of(alloc, value)?);
-        let _ = put(&mut store, Key::Number(key), value)?;
-    }
-    for (over, lower, upper, limit) in &ROWS {
-        push_all(
-            alloc,
-            &mut text,
-            &store,
-            *over,
-            range_of(*lower, *upper).as_ref(),
-            *limit,
-        )?;
-    }
-    assert_eq!(rt;
-        text.as_str(),
-        concat!(
-            "4: 10 20 30 40 ab c de fgh / 3: 20 30 40 c de fgh / 2: 30 40 de fgh / 2: 30 40 de fgh / ",
-            "3: 10 20 30 ab c de / 2: 10 20 ab c / 2: 20 30 c de / 0: / 0: / 0: / 4: 10 ab / 3: 20 30 c de / ",
-            "4: 20 10 30 40 c ab de fgh / 2: 10 30 ab de / 1: 40 fgh / 3: 20 10 c ab / 0: / 0: / "
-        )
-    );
-    Ok(())
-}
-
-/// The first of a range; over an index its primary key, and the value of that record.
-#[test]
-fn the_first_is_read_as_stated(rt: HostRuntime) -> Result<(), Fail> {
-    let alloc = rt.alloc();
-    let mut store = empty_store(alloc)?;
-    let mut text = String::new(alloc);
-    let _ = add_index(alloc, &mut store, false)?;
-    for (key, value) in [(10, "ab"), (20, "c"), (30, "de"), (40, "fgh")] {
-        let value = Value::Text(Text::copy_of(alloc, value)?);
-        let _ = put(&mut store, Key::Number(key), value)?;
-    }
-    for (over, lower, upper) in [
-        (Over::Store, Some((10, false)), None),
-        (Over::Store, Some((10, true)), None),
-        (Over::Store, None, Some((10, true))),
-        (Over::Store, Some((40, true)), None),
-        (Over::Store, Some((21, false)), Some((29, false))),
-        (Over::Index(0), Some((2, false)), None),
-        (Over::Index(0), Some((2, true)), None),
-        (Over::Index(0), None, Some((9, false))),
-        (Over::Index(7), None, Some((9, false))),
-    ] {
-        if let Some(range) = range_of(lower, upper) {
-            push_first(alloc, &mut text, &store, over, &range)?;
-        }
-    }
-    assert_eq!(rt;
-        text.as_str(),
-        " 10 ab /  20 c /  - - /  - - /  - - /  10 ab /  40 fgh /  20 c /  - - / "
-    );
-    assert_eq!(rt; span(&store, Over::Store, None), (0, 4));
     Ok(())
 }

@@ -19,7 +19,7 @@ use Rattle.index_tables.specs.RecordRows.{Records}
 use Rattle.index_tables.specs.Unique.{broken_key, is_broken}
 use Rattle.indexed_records.specs.Contents.{info_with_index, info_without_index}
 use Rattle.object_stores.specs.Store.{Content}
-use Rattle.object_stores.specs.IsStore.{IsStored, AreStored, IsContent}
+use Rattle.object_stores.specs.IsStore.{IsStored, AreStored, IsStoreContent}
 use Rattle.object_stores.proofs.Indexes.{fine_with, fine_without}
 use Rattle.object_stores.proofs.Off.{same_some, not_none}
 
@@ -40,21 +40,21 @@ stored_remove m k all q w e =
 pub stored_empty : AreStored empty
 stored_empty q w e = absurd (not_none w (sym e ∙ get-empty key_cmp q))
 
-module _ (old : Content) (fine : IsContent old) where
-  pub fine_records : (records : Records) → AreStored records → is_broken old.info.indexes records ≡ false → IsContent (record old { records = records })
+module _ (old : Content) (fine : IsStoreContent old) where
+  pub fine_records : (records : Records) → AreStored records → is_broken old.info.indexes records ≡ false → IsStoreContent (record old { records = records })
   fine_records records all unique = record { info = fine.info; records = all; unique = unique }
 
-  pub fine_insert : (k : KeyTree) (v : Tree) → IsStored k v → is_broken old.info.indexes (insert old.records k v) ≡ false → IsContent (record old { records = insert old.records k v })
+  pub fine_insert : (k : KeyTree) (v : Tree) → IsStored k v → is_broken old.info.indexes (insert old.records k v) ≡ false → IsStoreContent (record old { records = insert old.records k v })
   fine_insert k v here unique = fine_records (insert old.records k v) (stored_insert old.records k v fine.records here) unique
 
-  pub fine_index : (index : IndexInfo) → IsIndexInfo index → index_named old.info.indexes index.name ≡ None → broken_key index old.records ≡ None → IsContent (record old { info = info_with_index old.info index })
+  pub fine_index : (index : IndexInfo) → IsIndexInfo index → index_named old.info.indexes index.name ≡ None → broken_key index old.records ≡ None → IsStoreContent (record old { info = info_with_index old.info index })
   fine_index index fits new none = record {
     info = with_one_more old.info fine.info index fits new;
     records = fine.records;
     unique = fine_with old.info.indexes index old.records fine.unique none;
   }
 
-  pub fine_no_index : (place : ℕ) → IsContent (record old { info = info_without_index old.info place })
+  pub fine_no_index : (place : ℕ) → IsStoreContent (record old { info = info_without_index old.info place })
   fine_no_index place = record {
     info = with_one_less old.info fine.info place;
     records = fine.records;

@@ -11,7 +11,7 @@ use Rattle.key_order.specs.KeyOrder.{key_cmp}
 use Rattle.key_order.proofs.Laws.{key_cmp_total, key_cmp_same}
 use Rattle.index_tables.specs.RecordRows.{Records}
 use Rattle.object_stores.specs.Store.{Content, content_at}
-use Rattle.object_stores.specs.IsStore.{IsContent}
+use Rattle.object_stores.specs.IsStore.{IsStoreContent}
 use Rattle.object_stores.specs.Undo.{undone, past_of, IsUndoable, CanUndo, needed_records, needed_rows, HasSpare, AreRoomy}
 use Rattle.object_stores.specs.Parts.{content_in, log_in, past_in, IsSound}
 use Rattle.object_stores.specs.declared.changes.Change.{Change}
@@ -77,7 +77,7 @@ module _ {T R W : Type 0} where
 
   module _ (c : Change T R W) (old new : Parts T R W) (items : new.log.items ≡ old.log.items ++ c ∷ []) (back : undone c (content_in new) ≡ content_in old) where
     -- a change that was logged is sound where it can be undone and the tables have what its undoing needs
-    pub sound_pushed : IsSound old → IsContent (content_in new) → IsUndoable c (content_in new)
+    pub sound_pushed : IsSound old → IsStoreContent (content_in new) → IsUndoable c (content_in new)
         → HasSpare (c ∷ log_in old) new.contents.record_spare new.contents.row_spare → AreRoomy (c ∷ log_in old)
         → new.removed ≡ needed_records (c ∷ log_in old) → new.rows ≡ needed_rows (c ∷ log_in old) → IsSound new
     sound_pushed sound fine can spare kept removed rows =
@@ -94,7 +94,7 @@ module _ {T R W : Type 0} where
     past_pushed = ap (λ log. past_of log (content_in new)) (log_pushed c old new items) ∙ ap (λ s. past_of (log_in old) s ++ s ∷ []) back
 
   -- a store whose changes can be undone is as it should be
-  pub fine_now : (log : List (Change T R W)) (content : Content) → CanUndo log content → IsContent content
+  pub fine_now : (log : List (Change T R W)) (content : Content) → CanUndo log content → IsStoreContent content
   fine_now [] content h = h
   fine_now (c ∷ log) content h = h.0
 
@@ -116,7 +116,7 @@ module _ {T R W : Type 0} where
   past_again old new items same i = past_of (reverse (items i)) (same i)
 
   -- without changes nothing is needed
-  pub sound_fresh : (parts : Parts T R W) → parts.log.items ≡ [] → IsContent (content_in parts) → parts.removed ≡ 0 → parts.rows ≡ 0 → IsSound parts
+  pub sound_fresh : (parts : Parts T R W) → parts.log.items ≡ [] → IsStoreContent (content_in parts) → parts.removed ≡ 0 → parts.rows ≡ 0 → IsSound parts
   sound_fresh parts none fine removed rows =
       let e = sym (ap reverse none) in
       record {
@@ -157,14 +157,14 @@ module _ {T R W : Type 0} where
   pub place_auto : (parts : Parts T R W) (place : ℕ) → (content_at (past_in parts) (content_in parts) place).info.auto ≡ parts.contents.info.auto
   place_auto parts place = auto_at (log_in parts) (content_in parts) place
 
-  fine_at : (log : List (Change T R W)) (content : Content) (place : ℕ) → CanUndo log content → IsContent (content_at (past_of log content) content place)
-  fine_at [] content place h = subst IsContent (sym (none_at content place)) h
+  fine_at : (log : List (Change T R W)) (content : Content) (place : ℕ) → CanUndo log content → IsStoreContent (content_at (past_of log content) content place)
+  fine_at [] content place h = subst IsStoreContent (sym (none_at content place)) h
   fine_at (c ∷ log) content place h =
       elim (snoc_at (past_of log (undone c content)) (undone c content) content place) [
-        | inl e ↦ subst IsContent (sym e) (fine_at log (undone c content) place h.2)
-        | inr e ↦ subst IsContent (sym e) h.0
+        | inl e ↦ subst IsStoreContent (sym e) (fine_at log (undone c content) place h.2)
+        | inr e ↦ subst IsStoreContent (sym e) h.0
       ]
 
   -- and so is each content as it should be
-  pub place_fine : (parts : Parts T R W) (place : ℕ) → IsSound parts → IsContent (content_at (past_in parts) (content_in parts) place)
+  pub place_fine : (parts : Parts T R W) (place : ℕ) → IsSound parts → IsStoreContent (content_at (past_in parts) (content_in parts) place)
   place_fine parts place sound = fine_at (log_in parts) (content_in parts) place sound.undo

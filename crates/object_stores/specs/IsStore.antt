@@ -1,7 +1,7 @@
 -- What each object store meets.
 --     IsStored              a key and a value as they may be stored
 --     IsCurrent             the current number of a store's generator; 1 where there is none
---     IsContent             each record may be stored, the definition is as the standard asks, and no unique index is broken
+--     IsStoreContent             each record may be stored, the definition is as the standard asks, and no unique index is broken
 --     IsStore               and the current number is one
 use Rattle.std.specs.Prelude.{◌≡◌, ℕ, ◌≤◌, Bool, false, Some}
 use Rattle.std.specs.FinMap as finite
@@ -15,7 +15,7 @@ use Rattle.idb_schema.specs.Definitions.{IsStoreInfo}
 use Rattle.key_generators.specs.Generators.{IsGenerator}
 use Rattle.index_tables.specs.RecordRows.{Records}
 use Rattle.index_tables.specs.Unique.{is_broken}
-use Rattle.object_stores.specs.Store.{Store, Content, content_of}
+use Rattle.object_stores.specs.Store.{Store, Content, unnumbered}
 
 -- the key is in range and at most 100 deep; the value is well formed, and can be cloned
 pub record IsStored (k : KeyTree) (v : Tree) : Type 0 where
@@ -32,11 +32,11 @@ abbrev pub AreStored : Records → Type 0
 AreStored records = (key : KeyTree) (value : Tree) → finite.get records key ≡ Some value → IsStored key value
 
 -- the names of indexes are distinct, a generator and a multi-entry index have paths that fit, and no unique index has two rows of one key
-pub record IsContent (content : Content) : Type 0 where
+pub record IsStoreContent (content : Content) : Type 0 where
   pub info : IsStoreInfo content.info
   pub records : AreStored content.records
   pub unique : is_broken content.info.indexes content.records ≡ false
 
 pub record IsStore (store : Store) : Type 0 where
-  pub content : IsContent (content_of store)
+  pub content : IsStoreContent (unnumbered store)
   pub current : IsCurrent store.info.auto store.current

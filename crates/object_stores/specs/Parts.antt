@@ -7,7 +7,7 @@
 --     IsOff                 the newest change was taken off the log, and is still to be undone
 use Rattle.std.specs.Prelude.{◌≡◌, ℕ, ◌+◌, ◌^◌, ◌<◌, ◌≤◌, List, ◌∷◌, length, reverse}
 use Rattle.std.specs.Vec.{vec_capacity}
-use Rattle.object_stores.specs.Store.{Content, Kept, content_at, store_of}
+use Rattle.object_stores.specs.Store.{Content, Kept, content_at, numbered}
 use Rattle.object_stores.specs.IsStore.{IsCurrent}
 use Rattle.object_stores.specs.Undo.{past_of, CanUndo, needed_records, needed_rows, HasSpare, AreRoomy}
 use Rattle.object_stores.specs.declared.changes.Change.{Change}
@@ -24,9 +24,9 @@ past_in parts = past_of (log_in parts) (content_in parts)
 
 abbrev pub kept_in : {T R W : Type 0} → Parts T R W → ℕ → ℕ → Kept
 kept_in parts current settled = record {
-  store = store_of (content_in parts) current;
+  store = numbered (content_in parts) current;
   past = past_in parts;
-  settled = store_of (content_at (past_in parts) (content_in parts) 0) settled;
+  settled = numbered (content_at (past_in parts) (content_in parts) 0) settled;
 }
 
 -- the changes can be undone without memory

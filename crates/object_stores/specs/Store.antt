@@ -1,7 +1,7 @@
 -- Object stores (Indexed Database API 3.0, "object store").
 --     Store                 the definition, the records by key, and the current number of the key generator
 --     Kept                  a store, its content before each change that can still be undone, and what it was at the last settle
---     Content, content_of, store_of         the definition and the records alone;  a store without its number, and with one
+--     Content, unnumbered, numbered         the definition and the records alone;  a store without its number, and a content with one
 --     at_mark               the store at a mark
 --     KeepsPast             a change that leaves every earlier mark, and the last settle, as they were
 use Rattle.std.specs.Prelude.{◌≡◌, ℕ, ◌≤◌, List, length, slice_get, unwrap_or}
@@ -19,11 +19,11 @@ pub record Content : Type 0 where
   pub info : StoreInfo
   pub records : Records
 
-abbrev pub content_of : Store → Content
-content_of store = record { info = store.info; records = store.records }
+abbrev pub unnumbered : Store → Content
+unnumbered store = record { info = store.info; records = store.records }
 
-abbrev pub store_of : Content → ℕ → Store
-store_of content current = record { info = content.info; records = content.records; current = current }
+abbrev pub numbered : Content → ℕ → Store
+numbered content current = record { info = content.info; records = content.records; current = current }
 
 -- the store, its content before each change that can still be undone, the oldest first, and the store at the last settle
 pub record Kept : Type 0 where
@@ -37,7 +37,7 @@ content_at past content place = unwrap_or (slice_get past place) content
 
 -- the store at a mark, which is a place of the past and the current number at that time
 abbrev pub at_mark : Kept → ℕ → ℕ → Store
-at_mark kept place current = store_of (content_at kept.past (content_of kept.store) place) current
+at_mark kept place current = numbered (content_at kept.past (unnumbered kept.store) place) current
 
 -- every place that was given before leads to the same content
 pub record KeepsPlaces (old_past : List Content) (old : Content) (new_past : List Content) (new : Content) : Type 0 where

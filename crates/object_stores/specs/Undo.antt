@@ -11,7 +11,7 @@ use Rattle.clone_values.specs.View.{key_tree_of, tree_of}
 use Rattle.index_tables.specs.RecordRows.{index_rows}
 use Rattle.indexed_records.specs.Contents.{rows_in_indexes, rows_among, row_sets, info_without_last, info_with_index_at}
 use Rattle.object_stores.specs.Store.{Content}
-use Rattle.object_stores.specs.IsStore.{IsContent}
+use Rattle.object_stores.specs.IsStore.{IsStoreContent}
 use Rattle.object_stores.specs.declared.changes.Change.{Change}
 use Rattle.object_stores.specs.declared.changes.Change.TheVariants as change
 
@@ -40,8 +40,8 @@ IsUndoable (change.IndexDropped dropped) content = (dropped.place ≤ length con
 
 -- the content and each one before it are as they should be, and each change can be undone in its place
 abbrev pub CanUndo : {T R W : Type 0} → List (Change T R W) → Content → Type 0
-CanUndo [] content = IsContent content
-CanUndo (c ∷ log) content = IsContent content × IsUndoable c content × CanUndo log (undone c content)
+CanUndo [] content = IsStoreContent content
+CanUndo (c ∷ log) content = IsStoreContent content × IsUndoable c content × CanUndo log (undone c content)
 
 -- how many records come back into the table as it is now
 abbrev pub needed_records : {T R W : Type 0} → List (Change T R W) → ℕ

@@ -95,7 +95,8 @@ pub(crate) fn replace<T: Tables>(
     requires ready { IsReady parts.old 1 0 (rows_among old_rows + rows_among rows) }
     requires there { (old : Tree) × IsRecordAt parts.old.contents.records place (key_tree_of key) old }
     requires copy { rows_copy ≡ rows }
-    requires old_rows { (k : KeyTree) (v : Tree) → slice_get (finite.entries parts.old.contents.records) place ≡ Some (k, v)
+    requires old_rows { (k : KeyTree) (v : Tree)
+        → slice_get (finite.entries parts.old.contents.records) place ≡ Some (k, v)
         → old_rows ≡ rows_in_indexes parts.old.contents.info.indexes k v }
     requires rows { rows ≡ rows_in_indexes parts.old.contents.info.indexes (key_tree_of key) (tree_of value) }
     requires fits { IsStored (key_tree_of key) (tree_of value) }
@@ -124,11 +125,14 @@ pub(crate) fn remove<T: Tables>(parts: &mut Parts<T>, place: usize, rows: RowLis
     requires sound { IsSound parts.old }
     requires ready { IsReady parts.old 1 1 (rows_among rows) }
     requires within { place < finite.len parts.old.contents.records }
-    requires rows { (k : KeyTree) (v : Tree) → slice_get (finite.entries parts.old.contents.records) place ≡ Some (k, v)
+    requires rows { (k : KeyTree) (v : Tree)
+        → slice_get (finite.entries parts.old.contents.records) place ≡ Some (k, v)
         → rows ≡ rows_in_indexes parts.old.contents.info.indexes k v }
     ensures sound { IsSound parts.new }
-    ensures content { (k : KeyTree) (v : Tree) → slice_get (finite.entries parts.old.contents.records) place ≡ Some (k, v)
-        → content_in parts.new ≡ record (content_in parts.old) { records = finite.remove parts.old.contents.records k } }
+    ensures content { (k : KeyTree) (v : Tree)
+        → slice_get (finite.entries parts.old.contents.records) place ≡ Some (k, v)
+        → content_in parts.new
+        ≡ record (content_in parts.old) { records = finite.remove parts.old.contents.records k } }
     ensures fewer { finite.len parts.new.contents.records < finite.len parts.old.contents.records }
     ensures past { past_in parts.new ≡ past_in parts.old ++ content_in parts.old ∷ [] }
 {

@@ -14,7 +14,7 @@ use crate::undoing::undo_to;
 use idb_base::NoMemory;
 use idb_keys::{KeyRange, Over};
 use index_tables::Tables;
-use indexed_records::span;
+use range_reads::span;
 
 /// Takes the records in the range out, all or none.
 pub(crate) fn delete<T: Tables>(parts: &mut Parts<T>, range: &KeyRange) -> Result<(), NoMemory>
@@ -59,9 +59,12 @@ fn take_at<T: Tables>(parts: &mut Parts<T>, place: usize) -> Result<(), NoMemory
     requires sound { IsSound parts.old }
     requires within { place < finite.len parts.old.contents.records }
     ensures sound { IsSound parts.new }
-    ensures taken { OnOk result ((k : KeyTree) (v : Tree) → slice_get (finite.entries parts.old.contents.records) place ≡ Some (k, v)
-        → content_in parts.new ≡ record (content_in parts.old) { records = finite.remove parts.old.contents.records k }) }
-    ensures fewer { OnOk result (finite.len parts.new.contents.records < finite.len parts.old.contents.records) }
+    ensures taken { OnOk result ((k : KeyTree) (v : Tree)
+        → slice_get (finite.entries parts.old.contents.records) place ≡ Some (k, v)
+        → content_in parts.new
+        ≡ record (content_in parts.old) { records = finite.remove parts.old.contents.records k }) }
+    ensures fewer { OnOk result (finite.len parts.new.contents.records
+        < finite.len parts.old.contents.records) }
     ensures past { KeepsPlaces (past_in parts.old) (content_in parts.old)
         (past_in parts.new) (content_in parts.new) }
 {

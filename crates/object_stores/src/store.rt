@@ -26,8 +26,9 @@ use idb_base::NoMemory;
 use idb_keys::{KeyRange, Over};
 use idb_schema::{IndexInfo, StoreInfo};
 use index_tables::{Tables, unique_laws};
-use indexed_records::{IndexError, IndexedRecords, count, get, get_all, get_all_keys, get_key};
+use indexed_records::{IndexError, IndexedRecords};
 use key_generators::Generator;
+use range_reads::{count, get, get_all, get_all_keys, get_key};
 use std::alloc::Global;
 use std::marker::Model;
 
@@ -196,7 +197,8 @@ impl<T: Tables> StoreVersion<T> {
     ) -> Result<Key, StoreError>
         requires { CanStore self.old.store.info.path self.old.store.info.auto (tree_of value)
             (option_map key_tree_of key) }
-        ensures stored { IfOk result (λ k. stored_as self.old.store (tree_of value) (option_map key_tree_of key) add
+        ensures stored { IfOk result (λ k. stored_as self.old.store (tree_of value)
+            (option_map key_tree_of key) add
             ≡ stored (key_tree_of k) self.new.store) }
         ensures refused { IsErrOf result StoreError.Constraint
             → stored_as self.old.store (tree_of value) (option_map key_tree_of key) add ≡ refused }

@@ -2,8 +2,8 @@
 ghost use Rattle.std.specs.Prelude.{◌≡◌, [], option_map, IfOk, IfSome, IfNone, OnOk, OnErr};
 ghost use Rattle.std.specs.FinMap as finite;
 ghost use Rattle.clone_values.specs.View.{key_tree_of, tree_of};
-ghost use Rattle.object_stores.specs.IsStore.{IsContent, IsCurrent};
-ghost use Rattle.object_stores.specs.Store.{KeepsPlaces, store_of};
+ghost use Rattle.object_stores.specs.IsStore.{IsStoreContent, IsCurrent};
+ghost use Rattle.object_stores.specs.Store.{KeepsPlaces, numbered};
 ghost use Rattle.object_stores.specs.Storing.{CanStore, stored_as, stored, refused};
 ghost use Rattle.object_stores.specs.Parts.{content_in, past_in, IsSound};
 
@@ -20,7 +20,7 @@ use std::alloc::Global;
 
 /// Parts without a change.
 pub(crate) fn new_parts<T: Tables>(alloc: Global, contents: IndexedRecords<T>) -> Parts<T>
-    requires { IsContent (record { info = contents.info; records = contents.records }) }
+    requires { IsStoreContent (record { info = contents.info; records = contents.records }) }
     ensures sound { IsSound result }
     ensures contents { result.contents ≡ contents }
     ensures past { past_in result ≡ [] }
@@ -48,11 +48,11 @@ pub(crate) fn store_entry<T: Tables>(
     requires current { IsCurrent parts.old.contents.info.auto generator.old }
     ensures sound { IsSound parts.new }
     ensures current { IsCurrent parts.old.contents.info.auto generator.new }
-    ensures stored { IfOk result (λ k. IfSome k (λ k. stored_as (store_of (content_in parts.old) generator.old)
-        (tree_of value) (option_map key_tree_of key) add
-        ≡ stored (key_tree_of k) (store_of (content_in parts.new) generator.new))) }
-    ensures refused { IfOk result (λ k. IfNone k (stored_as (store_of (content_in parts.old) generator.old)
-        (tree_of value) (option_map key_tree_of key) add ≡ refused)) }
+    ensures stored { IfOk result (λ k. IfSome k (λ k. stored_as
+        (numbered (content_in parts.old) generator.old) (tree_of value) (option_map key_tree_of key) add
+        ≡ stored (key_tree_of k) (numbered (content_in parts.new) generator.new))) }
+    ensures refused { IfOk result (λ k. IfNone k (stored_as
+        (numbered (content_in parts.old) generator.old) (tree_of value) (option_map key_tree_of key) add ≡ refused)) }
     ensures none { IfOk result (λ k. IfNone k (content_in parts.new ≡ content_in parts.old)) }
     ensures unchanged { OnErr result (content_in parts.new ≡ content_in parts.old) }
     ensures info { parts.new.contents.info ≡ parts.old.contents.info }

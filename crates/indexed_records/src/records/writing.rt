@@ -88,14 +88,18 @@ impl<T: Tables> IndexedRecords<T> {
         new_rows: RowLists,
     ) -> Value
         requires within { place < finite.len self.old.records }
-        requires old_rows { (k : KeyTree) (v : Tree) → slice_get (finite.entries self.old.records) place ≡ Some (k, v)
+        requires old_rows { (k : KeyTree) (v : Tree)
+            → slice_get (finite.entries self.old.records) place ≡ Some (k, v)
             → old_rows.now ≡ rows_in_indexes self.old.info.indexes k v }
-        requires new_rows { (k : KeyTree) (v : Tree) → slice_get (finite.entries self.old.records) place ≡ Some (k, v)
+        requires new_rows { (k : KeyTree) (v : Tree)
+            → slice_get (finite.entries self.old.records) place ≡ Some (k, v)
             → new_rows ≡ rows_in_indexes self.old.info.indexes k (tree_of value) }
         requires rooms { rows_among new_rows ≤ self.old.row_spare }
-        ensures given { (k : KeyTree) (v : Tree) → slice_get (finite.entries self.old.records) place ≡ Some (k, v)
+        ensures given { (k : KeyTree) (v : Tree)
+            → slice_get (finite.entries self.old.records) place ≡ Some (k, v)
             → tree_of result ≡ v }
-        ensures records { (k : KeyTree) (v : Tree) → slice_get (finite.entries self.old.records) place ≡ Some (k, v)
+        ensures records { (k : KeyTree) (v : Tree)
+            → slice_get (finite.entries self.old.records) place ≡ Some (k, v)
             → self.new.records ≡ finite.insert self.old.records k (tree_of value) }
         ensures info { self.new.info ≡ self.old.info }
         ensures spare { self.new.record_spare ≡ self.old.record_spare }
@@ -109,7 +113,8 @@ impl<T: Tables> IndexedRecords<T> {
     /// Takes the record at this place out, with its rows. It takes no memory.
     pub fn take_out(&mut self, place: usize, rows: &RowLists) -> (Key, Value)
         requires within { place < finite.len self.old.records }
-        requires rows { (k : KeyTree) (v : Tree) → slice_get (finite.entries self.old.records) place ≡ Some (k, v)
+        requires rows { (k : KeyTree) (v : Tree)
+            → slice_get (finite.entries self.old.records) place ≡ Some (k, v)
             → rows.now ≡ rows_in_indexes self.old.info.indexes k v }
         ensures taken { IsRecordAt self.old.records place (key_tree_of result.0) (tree_of result.1) }
         ensures records { self.new.records ≡ finite.remove self.old.records (key_tree_of result.0) }

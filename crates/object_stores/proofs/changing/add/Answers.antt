@@ -1,6 +1,6 @@
 use Rattle.std.proofs.Common.{sym, ap, ◌∙◌, subst, arith}
 use Rattle.clone_values.specs.View.{key_tree_of, tree_of}
-use Rattle.object_stores.specs.IsStore.{IsContent}
+use Rattle.object_stores.specs.IsStore.{IsStoreContent}
 use Rattle.object_stores.specs.Parts.{content_in, log_in}
 use Rattle.object_stores.specs.declared.changes.Change.TheVariants as change
 use Rattle.object_stores.specs.declared.changes.Parts.{Parts}
@@ -22,7 +22,7 @@ returns-clause-sound g c =
     let fine = fine_now (log_in old) (content_in old) c.requires.sound.undo in
     sound_pushed (change.Added c.args.key_copy c.args.rows_copy) old _ c.note.ensures.items
     (added_back (content_in old) _ k v e.info e.records _ same c.requires.gap.absent) c.requires.sound
-    (subst IsContent (λ i. record { info = sym e.info i; records = sym e.records i }) (fine_insert (content_in old) fine k v c.requires.fits c.requires.unique))
+    (subst IsStoreContent (λ i. record { info = sym e.info i; records = sym e.records i }) (fine_insert (content_in old) fine k v c.requires.fits c.requires.unique))
     (added_can (content_in old) _ k v e.info e.records _ same c.args.rows_copy (c.requires.copy ∙ c.requires.rows))
     (omega (arith, c.requires.ready.records, e.spare), omega (arith, c.requires.ready.rows, e.row_spare))
     c.requires.sound.kept c.requires.sound.removed c.requires.sound.rows

@@ -1,7 +1,7 @@
 use Rattle.std.proofs.Common.{◌+◌, ◌<◌, sym, ap, ◌∙◌, subst, arith}
 use Rattle.std.specs.FinMap.{len, remove}
 use Rattle.clone_values.specs.View.{key_tree_of, tree_of}
-use Rattle.object_stores.specs.IsStore.{IsContent}
+use Rattle.object_stores.specs.IsStore.{IsStoreContent}
 use Rattle.object_stores.specs.Parts.{content_in, log_in}
 use Rattle.object_stores.specs.declared.changes.Change.TheVariants as change
 use Rattle.object_stores.specs.declared.changes.Parts.{Parts}
@@ -21,7 +21,7 @@ returns-clause-sound g c =
     let fine = fine_now (log_in old) (content_in old) c.requires.sound.undo in
     sound_pushed (change.Removed c.take_out-key.result.0 c.take_out-key.result.1 c.args.rows) old _ c.note.ensures.items
     (removed_back (content_in old) _ k v e.info e.records e.taken.found) c.requires.sound
-    (subst IsContent (λ i. record { info = sym e.info i; records = sym e.records i })
+    (subst IsStoreContent (λ i. record { info = sym e.info i; records = sym e.records i })
         (fine_records (content_in old) fine (remove old.contents.records k) (stored_remove old.contents.records k fine.records) (c.unique_laws.ensures.kept old.contents.info.indexes old.contents.records k fine.unique)))
     (removed_can (content_in old) _ k v e.info e.records c.args.rows (c.requires.rows k v e.taken.stands))
     (omega (arith, c.requires.ready.records, e.spare), omega (arith, c.requires.ready.rows, e.row_spare))

@@ -1,6 +1,6 @@
 use Rattle.std.proofs.Common.{◌+◌, sym, ap, ◌∙◌, subst, arith}
 use Rattle.clone_values.specs.View.{key_tree_of, tree_of}
-use Rattle.object_stores.specs.IsStore.{IsContent}
+use Rattle.object_stores.specs.IsStore.{IsStoreContent}
 use Rattle.object_stores.specs.Parts.{content_in, log_in}
 use Rattle.object_stores.specs.declared.changes.Change.TheVariants as change
 use Rattle.object_stores.specs.declared.changes.Parts.{Parts}
@@ -26,7 +26,7 @@ returns-clause-sound g c =
     let fine = fine_now (log_in old) (content_in old) c.requires.sound.undo in
     sound_pushed (change.Replaced c.args.key c.replace_at-old.result c.args.old_rows c.args.rows_copy) old _ c.note.ensures.items
     (replaced_back (content_in old) _ k v e.info records w at.found _ given) c.requires.sound
-    (subst IsContent (λ i. record { info = sym e.info i; records = sym records i }) (fine_insert (content_in old) fine k v c.requires.fits c.requires.unique))
+    (subst IsStoreContent (λ i. record { info = sym e.info i; records = sym records i }) (fine_insert (content_in old) fine k v c.requires.fits c.requires.unique))
     (replaced_can (content_in old) _ k v e.info records w c.args.old_rows c.args.rows_copy (c.requires.old_rows k w at.stands) (c.requires.copy ∙ c.requires.rows) _ given)
     (omega (arith, c.requires.ready.records, e.spare), omega (arith, c.requires.ready.rows, e.row_spare))
     c.requires.sound.kept c.requires.sound.removed (omega (arith, c.requires.sound.rows, c.count.ensures))

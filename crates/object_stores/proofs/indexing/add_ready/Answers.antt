@@ -2,7 +2,7 @@ use Rattle.std.proofs.Common.{◌<◌, [], ◌∷◌, length, sym, ap, ◌∙◌
 use Rattle.std.proofs.lemmas.List.{length-append}
 use Rattle.idb_schema.specs.declared.definitions.StoreInfo.{StoreInfo}
 use Rattle.indexed_records.specs.Contents.{info_without_last}
-use Rattle.object_stores.specs.IsStore.{IsContent}
+use Rattle.object_stores.specs.IsStore.{IsStoreContent}
 use Rattle.object_stores.specs.declared.changes.Change.TheVariants as change
 use Rattle.object_stores.specs.declared.changes.Parts.{Parts}
 use Rattle.object_stores.specs.Parts.{content_in, log_in, past_in}
@@ -21,7 +21,7 @@ returns-in-Ok-clause-sound g c =
     sound_pushed change.IndexAdded old _ c.note.ensures.items
     (λ i. record { info = (ap info_without_last info ∙ last_gone old.contents.info c.args.info) i; records = records i })
     c.requires.sound
-    (subst IsContent (λ i. record { info = sym info i; records = sym records i }) (fine_index (content_in old) fine c.args.info c.requires.fits c.requires.new_name c.in-Ok.ensures.unique))
+    (subst IsStoreContent (λ i. record { info = sym info i; records = sym records i }) (fine_index (content_in old) fine c.args.info c.requires.fits c.requires.new_name c.in-Ok.ensures.unique))
     (subst (λ (x : StoreInfo). 0 < length x.indexes) (sym info) (omega (arith, length-append old.contents.info.indexes (c.args.info ∷ []))))
     (omega (arith, c.requires.sound.spare.0, c.add_index.ensures.spare), omega (arith, c.requires.sound.spare.1, c.add_index.ensures.row_spare))
     c.requires.sound.kept c.requires.sound.removed c.requires.sound.rows

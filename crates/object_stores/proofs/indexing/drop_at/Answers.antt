@@ -3,7 +3,7 @@ use Rattle.std.specs.List.{remove}
 use Rattle.idb_schema.specs.declared.definitions.StoreInfo.{StoreInfo}
 use Rattle.index_tables.specs.RecordRows.{index_rows}
 use Rattle.indexed_records.specs.Contents.{info_with_index_at, info_without_index}
-use Rattle.object_stores.specs.IsStore.{IsContent}
+use Rattle.object_stores.specs.IsStore.{IsStoreContent}
 use Rattle.object_stores.specs.declared.changes.Change.TheVariants as change
 use Rattle.object_stores.specs.declared.changes.Parts.{Parts}
 use Rattle.object_stores.specs.Parts.{content_in, log_in}
@@ -26,7 +26,7 @@ returns-clause-sound g c =
     sound_pushed (change.IndexDropped d) mid _ c.note.ensures.items
     (λ i. record { info = (ap (λ x. info_with_index_at x d.place d.index) e.info ∙ ap (λ p. info_with_index_at (info_without_index mid.contents.info c.args.place) p d.index) e.place ∙ back_again mid.contents.info c.args.place d.index e.index) i; records = c.drop_index.ensures.records i })
     c.ready.ensures.sound
-    (subst IsContent (λ i. record { info = sym e.info i; records = sym c.drop_index.ensures.records i }) (fine_no_index (content_in mid) fine c.args.place))
+    (subst IsStoreContent (λ i. record { info = sym e.info i; records = sym c.drop_index.ensures.records i }) (fine_no_index (content_in mid) fine c.args.place))
     (omega (arith, e.place, within, less, fewer), e.rows ∙ ap (index_rows d.index) (sym c.drop_index.ensures.records), omega (arith, e.width, less, fewer))
     (omega (arith, c.ready.ensures.sound.spare.0, c.drop_index.ensures.spare), omega (arith, c.ready.ensures.sound.spare.1, c.drop_index.ensures.row_spare))
     (omega (arith, c.ready.ensures.sound.spare.1, e.kept), c.ready.ensures.sound.kept)

@@ -1,7 +1,7 @@
 use Rattle.std.proofs.Common.{sym, ap, ◌∙◌, subst, arith, refl}
 use Rattle.std.specs.FinMap.{empty}
 use Rattle.indexed_records.specs.Contents.{Indexed, row_sets}
-use Rattle.object_stores.specs.IsStore.{IsContent}
+use Rattle.object_stores.specs.IsStore.{IsStoreContent}
 use Rattle.object_stores.specs.Parts.{content_in, log_in, past_in}
 use Rattle.object_stores.specs.declared.changes.Change.TheVariants as change
 use Rattle.object_stores.proofs.Logged.{sound_pushed, past_pushed, fine_now}
@@ -19,7 +19,7 @@ returns-clause-sound g c =
     let fine = fine_now (log_in mid) (content_in mid) c.ready.ensures.sound.undo in
     sound_pushed (change.Cleared d mid.removed mid.rows) mid _ c.note_cleared.ensures.items
     (λ i. record { info = info i; records = e.taken i }) c.ready.ensures.sound
-    (subst IsContent (λ i. record { info = sym info i; records = sym records i }) (fine_records (content_in mid) fine empty stored_empty (c.unique_laws.ensures.none mid.contents.info.indexes)))
+    (subst IsStoreContent (λ i. record { info = sym info i; records = sym records i }) (fine_records (content_in mid) fine empty stored_empty (c.unique_laws.ensures.none mid.contents.info.indexes)))
     (e.rows ∙ (λ i. row_sets (sym info i).indexes (sym e.taken i)))
     (omega arith, omega arith)
     (c.ready.ensures.sound.removed, c.ready.ensures.sound.rows, (omega (arith, c.ready.ensures.sound.spare.0, e.spare), omega (arith, c.ready.ensures.sound.spare.1, e.row_spare)), c.ready.ensures.sound.kept)

@@ -5,7 +5,7 @@ use Rattle.clone_values.specs.KeyTree.{KeyTree}
 use Rattle.clone_values.specs.View.{key_tree_of, tree_of}
 use Rattle.indexed_records.specs.Contents.{rows_in_indexes, rows_among}
 use Rattle.indexed_records.proofs.Changes.{put_fits, take_fits, replace_steps}
-use Rattle.indexed_records.proofs.MemberLemmas.{record_there, record_found}
+use Rattle.indexed_records.proofs.RecordPlaces.{record_there, record_found}
 use Rattle.indexed_records.proofs.records.IndexedRecords.replace_at.Goals as goal
 
 pub replace_in_each-requires-clause-rows : goal.replace_in_each-requires-clause-rows

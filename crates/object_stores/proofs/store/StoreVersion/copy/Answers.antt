@@ -5,7 +5,7 @@ use Rattle.idb_schema.specs.declared.definitions.StoreInfo.{StoreInfo}
 use Rattle.indexed_records.specs.Contents.{Indexed}
 use Rattle.object_stores.specs.IsStore.{AreStored, IsCurrent}
 use Rattle.object_stores.specs.Parts.{content_in, log_in, past_in}
-use Rattle.object_stores.specs.Store.{store_of}
+use Rattle.object_stores.specs.Store.{numbered}
 use Rattle.object_stores.proofs.Logged.{fine_now}
 use Rattle.object_stores.proofs.Marks.{settled_anew}
 use Rattle.object_stores.proofs.store.StoreVersion.copy.Goals as goal
@@ -32,4 +32,4 @@ invariant_of-result g c =
 
 pub returns-clause-settled : goal.returns-clause-settled
 returns-clause-settled g c =
-    settled_anew (past_in c.new_parts.result) (content_in c.new_parts.result) _ c.new_parts.ensures.past ∙ ap (store_of (content_in c.new_parts.result)) (sym c.restore.ensures)
+    settled_anew (past_in c.new_parts.result) (content_in c.new_parts.result) _ c.new_parts.ensures.past ∙ ap (numbered (content_in c.new_parts.result)) (sym c.restore.ensures)

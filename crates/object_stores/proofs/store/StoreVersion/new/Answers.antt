@@ -3,7 +3,7 @@ use Rattle.index_tables.specs.Unique.{is_broken}
 use Rattle.idb_schema.specs.Definitions.{IsStoreInfo}
 use Rattle.object_stores.specs.IsStore.{AreStored}
 use Rattle.object_stores.specs.Parts.{content_in, past_in}
-use Rattle.object_stores.specs.Store.{store_of}
+use Rattle.object_stores.specs.Store.{numbered}
 use Rattle.object_stores.proofs.Fine.{stored_empty}
 use Rattle.object_stores.proofs.Marks.{settled_anew}
 use Rattle.object_stores.proofs.store.StoreVersion.new.Goals as goal
@@ -17,4 +17,4 @@ new_parts-requires-after_bounds g c = λ κs h. record {
 
 pub returns-clause-settled : goal.returns-clause-settled
 returns-clause-settled g c =
-    settled_anew (past_in c.new_parts.result) (content_in c.new_parts.result) _ c.new_parts.ensures.past ∙ ap (store_of (content_in c.new_parts.result)) (sym c.new-2.ensures)
+    settled_anew (past_in c.new_parts.result) (content_in c.new_parts.result) _ c.new_parts.ensures.past ∙ ap (numbered (content_in c.new_parts.result)) (sym c.new-2.ensures)

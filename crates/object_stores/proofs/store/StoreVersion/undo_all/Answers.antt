@@ -1,5 +1,5 @@
 use Rattle.std.proofs.Common.{◌≡◌, ◌≤◌, ◌∙◌, length, sym, ap, subst, arith}
-use Rattle.object_stores.specs.Store.{Kept, store_of}
+use Rattle.object_stores.specs.Store.{Kept, numbered}
 use Rattle.object_stores.specs.IsStore.{IsCurrent}
 use Rattle.object_stores.proofs.Marks.{current_undone, settled_undone}
 use Rattle.object_stores.proofs.store.StoreVersion.undo_all.Goals as goal
@@ -16,7 +16,7 @@ invariant_of-self g c =
     }
 
 pub returns-clause-store : goal.returns-clause-store
-returns-clause-store g c = (λ i. store_of (c.undo_to.ensures.content i) (c.restore.ensures i)) ∙ ap (λ (k : Kept). k.settled) c.self.view_is
+returns-clause-store g c = (λ i. numbered (c.undo_to.ensures.content i) (c.restore.ensures i)) ∙ ap (λ (k : Kept). k.settled) c.self.view_is
 
 pub returns-clause-settled : goal.returns-clause-settled
 returns-clause-settled g c =

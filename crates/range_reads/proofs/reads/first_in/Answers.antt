@@ -1,6 +1,6 @@
 use Rattle.std.proofs.Common.{◌∙◌, sym, ap, Some}
-use Rattle.indexed_records.proofs.Rising.{members_rise, first_in_range, first_outside, first_missing}
-use Rattle.indexed_records.proofs.reads.first_in.Goals as goal
+use Rattle.range_reads.proofs.Rising.{members_rise, first_in_range, first_outside, first_missing}
+use Rattle.range_reads.proofs.reads.first_in.Goals as goal
 
 pub returns-then-includes : goal.returns-then-includes
 returns-then-includes g c = first_in_range c.args.range.now _ _ c.lower_end-start.ensures _ (sym c.in-Some.ensures) (sym c.includes.ensures.value ∙ c.if-includes.true)

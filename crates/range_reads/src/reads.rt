@@ -5,12 +5,12 @@ ghost use Rattle.std.specs.FinMap as finite;
 ghost use Rattle.clone_values.specs.View.{key_tree_of, tree_of};
 ghost use Rattle.indexed_records.specs.Reading.{members_in, selected, asked, limited, first_primary, first_value, primary_keys, values_in, value_seen};
 
-use crate::records::IndexedRecords;
 use crate::spans::{limited_span, lower_end};
 use clone_values::{Items, Key, Keys, Value, copy_value};
 use idb_base::{GREATEST_LENGTH, NoMemory};
 use idb_keys::{KeyRange, Over};
 use index_tables::Tables;
+use indexed_records::IndexedRecords;
 use std::alloc::Global;
 
 /// A copy of the value of the first record whose key is in the range ("retrieve a value from an object store"); over an

@@ -25,20 +25,8 @@ use Rattle.idb_keys.specs.declared.names.Over.TheVariants.{Store}
 use Rattle.index_tables.specs.RecordRows.{Records}
 use Rattle.idb_schema.specs.declared.definitions.IndexInfo.{IndexInfo}
 use Rattle.index_tables.specs.Rows.{RowTree}
+use Rattle.indexed_records.proofs.Laws.{record_found}
 use Rattle.indexed_records.specs.Reading.{members_in, first_primary, first_value}
-
-left : (a b : Bool) → T (a && b) → T a
-left true b h = tt
-left false b h = absurd h
-
-right : (a b : Bool) → T (a && b) → T b
-right true b h = h
-right false b h = absurd h
-
-less : (o : Ordering) → T (is_lt o) → o ≡ Less
-less Less h = refl
-less Equal h = absurd h
-less Greater h = absurd h
 
 -- ---- one member more
 taken_next : {A : Type 0} (n : ℕ) (xs : List A) → take (suc n) xs ≡ take n xs ++ option_to_list (slice_get xs n)
@@ -93,24 +81,6 @@ pub no_key : {A B : Type 0} (f : A → B) (s i : ℕ) (xs : List A) (ks : List B
 no_key f s i xs ks le none so_far = sym (append-nil ks) ∙ more_keys f s i xs None ks le none so_far
 
 -- ---- the record of a member
-below_each : (k : KeyTree) (es : List (KeyTree × Tree)) (i : ℕ) (e : KeyTree × Tree) → T (below_all key_cmp k es) → slice_get es i ≡ Some e → key_cmp k e.0 ≡ Less
-below_each k [] i e h at = cc
-below_each k (f ∷ es) zero e h at = (let same : e ≡ f = cc in ap (λ (x : KeyTree × Tree). key_cmp k x.0) same) ∙ less _ (left _ _ h)
-below_each k (f ∷ es) (suc i) e h at = below_each k es i e (right _ _ h) at
-
-found_at : (es : List (KeyTree × Tree)) (i : ℕ) (e : KeyTree × Tree) → T (is_sorted key_cmp es) → slice_get es i ≡ Some e → find key_cmp e.0 es ≡ Some e.1
-found_at [] i e h at = cc
-found_at (f ∷ es) zero e h at =
-    (let same : e ≡ f = cc in ap (λ (x : KeyTree × Tree). find key_cmp x.0 (f ∷ es)) same)
-    ∙ ap (λ o. cond (is_eq o) (Some f.1) (find key_cmp f.0 es)) (tied_itself key_cmp_total f.0)
-    ∙ (let same : f ≡ e = cc in ap (λ (x : KeyTree × Tree). Some x.1) same)
-found_at (f ∷ es) (suc i) e h at =
-    ap (λ o. cond (is_eq o) (Some f.1) (find key_cmp e.0 es)) (key_cmp_total.antisymm e.0 f.0 ∙ ap ordering_reverse (below_each f.0 es i e (left _ _ h) at))
-    ∙ found_at es i e (right _ _ h) at
-
-pub record_found : (records : Records) (i : ℕ) (e : KeyTree × Tree) → slice_get (finite.entries records) i ≡ Some e → finite.get records e.0 ≡ Some e.1
-record_found records i e at = finite.get-entries records e.0 ∙ found_at (finite.entries records) i e (finite.entries_sorted records) at
-
 found_again : (records : Records) (o : Option (KeyTree × Tree)) → ((e : KeyTree × Tree) → o ≡ Some e → finite.get records e.0 ≡ Some e.1)
     → option_map (λ (e : KeyTree × Tree). e.1) o ≡ option_and_then (λ (m : KeyTree × KeyTree). finite.get records m.1) (option_map (λ (e : KeyTree × Tree). (e.0, e.0)) o)
 found_again records None h = refl
@@ -138,9 +108,3 @@ pub first_value_at : (records : Records) (ms ys : List RowTree) (o : Option ℕ)
 first_value_at records ms ys o e =
     through (λ k. finite.get records k) (λ (m : RowTree). m.1) (option_and_then (slice_get ms) o) ∙ ap (option_and_then (λ k. finite.get records k)) (first_primary_at ms ys o e)
 
--- at each place within stands a record
-pub record_there : (records : Records) (place : ℕ) → place < finite.len records → (k : KeyTree) × (v : Tree) × (slice_get (finite.entries records) place ≡ Some (k, v))
-record_there records place h = elim (slice_get_cases (finite.entries records) place).1 [
-  | inl found ↦ (found.0.0, found.0.1, found.2)
-  | inr past ↦ absurd (omega (arith, h, finite.len-entries records, past.0))
-]

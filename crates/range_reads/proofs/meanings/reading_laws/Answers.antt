@@ -1,5 +1,5 @@
-use Rattle.indexed_records.proofs.Rising.{members_rise, row_shown_by_key}
-use Rattle.indexed_records.proofs.meanings.reading_laws.Goals as goal
+use Rattle.range_reads.proofs.Rising.{members_rise, row_shown_by_key}
+use Rattle.range_reads.proofs.meanings.reading_laws.Goals as goal
 
 pub returns-clause-rises : goal.returns-clause-rises
 returns-clause-rises c = members_rise

@@ -15,7 +15,8 @@ use Rattle.key_order.specs.KeyOrder.{key_cmp}
 use Rattle.key_order.proofs.Laws.{key_cmp_total}
 use Rattle.idb_keys.specs.KeyRange.{Range, bound_at, every_key, admits, meets_lower, meets_upper}
 use Rattle.indexed_records.specs.Reading.{selected, limited}
-use Rattle.indexed_records.specs.Ends.{Splits, IsFirstFrom, IsPastLast}
+use Rattle.indexed_records.specs.Ends.{Splits, IsFirstFrom}
+use Rattle.range_reads.specs.PastLast.{IsPastLast}
 
 left : (a b : Bool) → a && b ≡ true → a ≡ true
 left true b h = refl

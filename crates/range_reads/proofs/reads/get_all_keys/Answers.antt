@@ -5,9 +5,9 @@ use Rattle.indexed_records.specs.Reading.{keys_seen}
 use Rattle.clone_values.specs.KeyTree.{KeyTree}
 use Rattle.clone_values.specs.View.{key_tree_of}
 use Rattle.indexed_records.specs.Reading.{members_in}
-use Rattle.indexed_records.proofs.MemberLemmas.{more_keys, no_key}
-use Rattle.indexed_records.proofs.reads.get_all_keys.Goals as goal
-use Rattle.indexed_records.proofs.reads.get_all_keys.Goals.{in-Some+in_ok-copy+in_ok-push, in_default}
+use Rattle.range_reads.proofs.MemberLemmas.{more_keys, no_key}
+use Rattle.range_reads.proofs.reads.get_all_keys.Goals as goal
+use Rattle.range_reads.proofs.reads.get_all_keys.Goals.{in-Some+in_ok-copy+in_ok-push, in_default}
 
 pub loop-place-preserved : goal.loop-place-preserved
 loop-place-preserved g c =

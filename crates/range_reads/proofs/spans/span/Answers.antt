@@ -1,7 +1,7 @@
 use Rattle.std.proofs.Common.{◌∙◌, sym, ap}
 use Rattle.indexed_records.specs.Reading.{members_in, selected, asked}
-use Rattle.indexed_records.proofs.Splitting.{all_selected}
-use Rattle.indexed_records.proofs.spans.span.Goals as goal
+use Rattle.range_reads.proofs.Splitting.{all_selected}
+use Rattle.range_reads.proofs.spans.span.Goals as goal
 
 pub returns-in-None-clause-selected : goal.returns-in-None-clause-selected
 returns-in-None-clause-selected g c =

@@ -15,7 +15,8 @@ ghost use Rattle.indexed_records.specs.Reading.{members_in};
 pub fn reading_laws()
     ensures rises { (indexes : List IndexInfo) (records : Records) (over : Over)
         → AllPairs (λ p q. row_cmp p q ≡ Less) (members_in indexes records over) }
-    ensures shown { (indexes : List IndexInfo) (records : Records) (place : ℕ) (index : IndexInfo) (row : RowTree)
+    ensures shown { (indexes : List IndexInfo) (records : Records) (place : ℕ)
+        (index : IndexInfo) (row : RowTree)
         → slice_get indexes place ≡ Some index
         → among (members_in indexes records (Index place)) row
         ≡ gives_key index row.0 (finite.get records row.1) }

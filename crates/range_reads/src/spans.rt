@@ -1,11 +1,12 @@
 // Where the members of a range stand.
 ghost use Rattle.std.specs.Prelude.{◌≡◌, ◌-◌, ◌≤◌, length, take, drop};
-ghost use Rattle.indexed_records.specs.Ends.{IsFirstFrom, IsPastLast};
+ghost use Rattle.indexed_records.specs.Ends.{IsFirstFrom};
+ghost use Rattle.range_reads.specs.PastLast.{IsPastLast};
 ghost use Rattle.indexed_records.specs.Reading.{members_in, limited, selected, asked};
 
-use crate::records::IndexedRecords;
 use idb_keys::{KeyRange, Over};
 use index_tables::Tables;
+use indexed_records::IndexedRecords;
 
 /// The place of the first record or row whose key is in the range, and the place behind the last, both found by halving;
 /// without a range, all of them. Where none is in it, the two places are one. It takes no memory.

@@ -5,9 +5,9 @@ use Rattle.std.specs.FinMap as finite
 use Rattle.clone_values.specs.KeyTree.{KeyTree}
 use Rattle.clone_values.specs.View.{tree_of}
 use Rattle.indexed_records.specs.Reading.{members_in, value_seen}
-use Rattle.indexed_records.proofs.MemberLemmas.{more_values, no_value}
-use Rattle.indexed_records.proofs.reads.get_all.Goals as goal
-use Rattle.indexed_records.proofs.reads.get_all.Goals.{in-Some+in_ok-copy_value+in_ok-push, in_default}
+use Rattle.range_reads.proofs.MemberLemmas.{more_values, no_value}
+use Rattle.range_reads.proofs.reads.get_all.Goals as goal
+use Rattle.range_reads.proofs.reads.get_all.Goals.{in-Some+in_ok-copy_value+in_ok-push, in_default}
 
 pub loop-place-preserved : goal.loop-place-preserved
 loop-place-preserved g c =

@@ -1,0 +1,4 @@
+pub mod MemberLemmas
+pub mod Splitting
+pub mod Rising
+pub mod Laws
