@@ -1,55 +1,40 @@
--- What putting a record in and taking one out asks of what is kept, and makes of it.
---     shows                 what contracts see of the tables
---     CanPut, CanTake       what the two ask
---     put_fits, put_match, put_complete      the rows can be added; they keep the tables in step; each index has its table still
---     take_counted, take_match, take_complete        the same of the rows that go
-use Rattle.std.proofs.Common.{◌≡◌, ℕ, ◌∙◌, List, map, length, sym, ap, subst, Some, None}
+-- What putting a record in, replacing one and taking one out ask of the tables, and make of them.
+--     put_fits, put_steps           the rows can be added, and keep the tables in step
+--     replace_steps                 the same of rows that take the place of others
+--     take_fits, take_steps         the same of rows that go
+use Rattle.std.proofs.Common.{◌≡◌, ℕ, ◌+◌, ◌≤◌, List, map, length, sym, ap, subst, ◌∙◌, Some, None, arith}
 use Rattle.std.proofs.lemmas.List.{length-map}
-use Rattle.std.specs.Prelude.{slice_get}
 use Rattle.std.specs.FinMap as finite
 use Rattle.clone_values.specs.Tree.{Tree}
 use Rattle.clone_values.specs.KeyTree.{KeyTree}
-use Rattle.key_paths.specs.Conversion.{keys_of, AreDistinct}
-use Rattle.idb_schema.specs.declared.definitions.StoreInfo.{StoreInfo}
+use Rattle.idb_schema.specs.declared.definitions.IndexInfo.{IndexInfo}
 use Rattle.index_tables.specs.Rows.{RowTree, IndexRows}
-use Rattle.index_rows.specs.Rows.{Records}
-use Rattle.indexed_records.specs.Contents.{Indexed, IsComplete, IsRecordAt, rows_in_indexes, Fit}
-use Rattle.indexed_records.specs.Matches.{RowsMatch}
-use Rattle.indexed_records.specs.Walks.{AllChanged, Adds, Removes, CanAdd}
-use Rattle.indexed_records.proofs.Matching.{can_add, added_match, removed_match, same_count}
+use Rattle.index_tables.specs.RecordRows.{Records, rows_of_record}
+use Rattle.indexed_records.specs.Contents.{rows_in_indexes, rows_among}
+use Rattle.indexed_records.specs.Matches.{InStep}
+use Rattle.indexed_records.specs.Walks.{AllChanged, Adds, Removes, Replaces, CanAdd, paired}
+use Rattle.indexed_records.proofs.Matching.{can_add, added_in_step, removed_in_step, replaced_in_step, counted_within}
 
-abbrev pub shows : StoreInfo → Records → ℕ → List IndexRows → Indexed
-shows info records spare tables = record { info = info; records = records; record_spare = spare; row_spares = map (λ t. t.spare) tables }
+module _ (is : List IndexInfo) (records : Records) (spare : ℕ) (os : List IndexRows) (k : KeyTree) (h : InStep is os records spare) where
+  enough : (value : Tree) (rows : List (List RowTree)) → rows ≡ rows_in_indexes is k value → length os ≤ length rows
+  enough value rows are = omega (arith, counted_within is os records spare h, ap length are, length-map {B = List RowTree} is (λ index. rows_of_record index k value))
 
-pub record CanPut (all : Indexed) (k : KeyTree) (value : Tree) (rows : List (List RowTree)) : Type 0 where
-  pub complete : IsComplete all
-  pub absent : finite.get all.records k ≡ None
-  pub rows_are : rows ≡ rows_in_indexes all.info.indexes k value
-  pub rooms : Fit rows all.row_spares
+  module _ (value : Tree) (rows : List (List RowTree)) (are : rows ≡ rows_in_indexes is k value) where
+    pub put_fits : rows_among rows ≤ spare → AllChanged CanAdd rows os os
+    put_fits room = subst (λ rs. AllChanged CanAdd rs os os) (sym are) (can_add k value records spare is os h (subst (λ rs. rows_among rs ≤ spare) are room))
 
-pub record CanTake (all : Indexed) (place : ℕ) (rows : List (List RowTree)) : Type 0 where
-  pub complete : IsComplete all
-  pub rows_are : (k : KeyTree) (v : Tree) → slice_get (finite.entries all.records) place ≡ Some (k, v) → rows ≡ rows_in_indexes all.info.indexes k v
+    pub put_steps : finite.get records k ≡ None → (left : ℕ) → left + rows_among rows ≤ spare → (ns : List IndexRows) → AllChanged Adds rows os ns → InStep is ns (finite.insert records k value) left
+    put_steps absent left room ns added =
+        added_in_step records k value absent spare left is os ns h (subst (λ rs. left + rows_among rs ≤ spare) are room) (subst (λ rs. AllChanged Adds rs os ns) are added)
 
-module _ (info : StoreInfo) (records : Records) (spare : ℕ) (os : List IndexRows) (rows : List (List RowTree)) where
-  module _ (k : KeyTree) (value : Tree) (can : CanPut (shows info records spare os) k value rows) (h : RowsMatch info.indexes (map (λ t. t.rows) os) records) where
-    pub put_fits : ((ts : List Tree) → AreDistinct (keys_of ts)) → AllChanged CanAdd rows os os
-    put_fits law = subst (λ rs. AllChanged CanAdd rs os os) (sym can.rows_are)
-        (can_add records k value law can.absent info.indexes os h can.complete (subst (λ rs. Fit rs (map (λ t. t.spare) os)) can.rows_are can.rooms))
+    pub take_fits : length os ≤ length rows
+    take_fits = enough value rows are
 
-    pub put_match : (ns : List IndexRows) → AllChanged Adds rows os ns → RowsMatch info.indexes (map (λ t. t.rows) ns) (finite.insert records k value)
-    put_match ns added = added_match records k value can.absent info.indexes os ns h can.complete (subst (λ rs. AllChanged Adds rs os ns) can.rows_are added)
+    pub take_steps : finite.get records k ≡ Some value → (ns : List IndexRows) → AllChanged Removes rows os ns → InStep is ns (finite.remove records k) spare
+    take_steps there ns gone = removed_in_step records k value there spare is os ns h (subst (λ rs. AllChanged Removes rs os ns) are gone)
 
-    pub put_complete : (ns : List IndexRows) → AllChanged Adds rows os ns → length (map (λ t. t.spare) ns) ≡ length info.indexes
-    put_complete ns added = same_count Adds rows os ns added ∙ can.complete
-
-  module _ (place : ℕ) (k : KeyTree) (value : Tree) (can : CanTake (shows info records spare os) place rows) (at : IsRecordAt records place k value) where
-    pub take_counted : length rows ≡ length os
-    take_counted =
-        ap length (can.rows_are k value at.stands) ∙ length-map {B = List RowTree} info.indexes _ ∙ sym can.complete ∙ length-map {B = ℕ} os _
-
-    pub take_match : RowsMatch info.indexes (map (λ t. t.rows) os) records → (ns : List IndexRows) → AllChanged Removes rows os ns → RowsMatch info.indexes (map (λ t. t.rows) ns) (finite.remove records k)
-    take_match h ns gone = removed_match records k value at.found info.indexes os ns h can.complete (subst (λ rs. AllChanged Removes rs os ns) (can.rows_are k value at.stands) gone)
-
-    pub take_complete : (ns : List IndexRows) → AllChanged Removes rows os ns → length (map (λ t. t.spare) ns) ≡ length info.indexes
-    take_complete ns gone = same_count Removes rows os ns gone ∙ can.complete
+    module _ (old : Tree) (old_rows : List (List RowTree)) (were : old_rows ≡ rows_in_indexes is k old) where
+      pub replace_steps : finite.get records k ≡ Some old → (left : ℕ) → left + rows_among rows ≤ spare → (ns : List IndexRows) → AllChanged Replaces (paired old_rows rows) os ns → InStep is ns (finite.insert records k value) left
+      replace_steps there left room ns put =
+          replaced_in_step records k value old there spare left is os ns h (subst (λ rs. left + rows_among rs ≤ spare) are room)
+          (subst (λ rs. AllChanged Replaces (paired (rows_in_indexes is k old) rs) os ns) are (subst (λ rs. AllChanged Replaces (paired rs rows) os ns) were put))

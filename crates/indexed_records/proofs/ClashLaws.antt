@@ -14,20 +14,21 @@ use Rattle.std.specs.FinMap as finite
 use Rattle.clone_values.specs.Tree.{Tree}
 use Rattle.clone_values.specs.KeyTree.{KeyTree}
 use Rattle.key_order.specs.KeyOrder.{key_cmp}
-use Rattle.key_order.proofs.KeyLaws.{key_cmp_total, key_cmp_same}
+use Rattle.key_order.proofs.Laws.{key_cmp_total, key_cmp_same}
 use Rattle.idb_keys.specs.KeyRange.{bound_at, admits}
 use Rattle.idb_schema.specs.declared.definitions.IndexInfo.{IndexInfo}
-use Rattle.index_tables.specs.Rows.{RowTree, RowSet, IndexRows, row_cmp, is_row, among, has_row, rows_of, row_meets, first_row}
+use Rattle.index_tables.specs.Rows.{RowTree, RowSet, IndexRows, row_cmp, is_row, among, has_row, no_rows, rows_of, row_meets, first_row}
 use Rattle.index_tables.specs.Orders.{row_cmp_total}
-use Rattle.index_tables.proofs.RowLaws.{has_row_among}
-use Rattle.index_rows.specs.Rows.{Records, index_keys, rows_of_record, index_rows}
-use Rattle.index_rows.specs.Unique.{first_repeated, broken_key, is_broken}
+use Rattle.index_tables.proofs.Laws.{has_row_among}
+use Rattle.index_tables.specs.RecordRows.{Records, is_one_of, index_keys, rows_of_record, index_rows}
+use Rattle.index_tables.specs.Unique.{first_repeated, broken_key, is_broken}
 use Rattle.indexed_records.specs.Contents.{rows_in_indexes}
-use Rattle.indexed_records.specs.Matches.{RowsMatch}
+use Rattle.indexed_records.specs.Matches.{InStep}
 use Rattle.indexed_records.specs.Clashes.{is_other, has_other, clash_in, clash_at, clash_any, AreUnique}
-use Rattle.index_rows.proofs.Rows.{is_one_of, or_nothing}
+use Rattle.index_tables.proofs.Laws.{or_nothing}
 use Rattle.indexed_records.proofs.Matching.{none_left}
-use Rattle.index_rows.proofs.Unique.{keys_rise, keys_rise_from, rows_rise_in, is_less, same_primary, stays_unique, is_repeated}
+use Rattle.indexed_records.proofs.Members.{none_shown}
+use Rattle.index_tables.proofs.Laws.{keys_rise, keys_rise_from, rows_rise_in, is_less, same_primary, stays_unique, is_repeated}
 
 -- ---- one look by halving
 other_of : KeyTree → KeyTree → Option RowTree → Bool
@@ -123,13 +124,13 @@ or_both : (a b : Bool) → (a || b) ≡ false → (a ≡ false) × (b ≡ false)
 or_both true b h = cc
 or_both false b h = (refl, h)
 
-pub are_unique : (is : List IndexInfo) (ts : List IndexRows) (records : Records) → RowsMatch is (map (λ t. t.rows) ts) records → is_broken is records ≡ false → AreUnique is ts
-are_unique [] ts records h clean place index table at there u = cc
-are_unique (i ∷ is) [] records h clean place index table at there u = cc
-are_unique (i ∷ is) (t ∷ ts) records h clean zero index table at there u =
+pub are_unique : (is : List IndexInfo) (ts : List IndexRows) (records : Records) (spare : ℕ) → InStep is ts records spare → is_broken is records ≡ false → AreUnique is ts
+are_unique [] ts records spare h clean place index table at there u = cc
+are_unique (i ∷ is) [] records spare h clean place index table at there u = cc
+are_unique (i ∷ is) (t ∷ ts) records spare h clean zero index table at there u =
     let one : index ≡ i = cc in let two : table ≡ t = cc in
     ap (λ t. first_repeated (rows_of t.rows)) two ∙ ap (λ s. first_repeated (rows_of s)) h.0 ∙ broken_none i records (ap (λ i. i.unique) (sym one) ∙ u) (or_both _ _ clean).0
-are_unique (i ∷ is) (t ∷ ts) records h clean (suc place) index table at there u = are_unique is ts records h.1 (or_both _ _ clean).1 place index table at there u
+are_unique (i ∷ is) (t ∷ ts) records spare h clean (suc place) index table at there u = are_unique is ts records spare h.2 (or_both _ _ clean).1 place index table at there u
 
 -- a row of another record is among the rows
 other_from_row : (x p k : KeyTree) (rs : List RowTree) → p ≢ k → among rs (x, p) ≡ true → list_any (is_other x k) rs ≡ true
@@ -205,11 +206,32 @@ module _ (index : IndexInfo) (records : Records) (k : KeyTree) (value : Tree) wh
         | false ↦ λ u. refl
       ] refl
 
-pub clash_breaks : (is : List IndexInfo) (ts : List IndexRows) (records : Records) (k : KeyTree) (value : Tree) → RowsMatch is (map (λ t. t.rows) ts) records → length (map (λ t. t.spare) ts) ≡ length is → is_broken is records ≡ false
-    → clash_any is ts (rows_in_indexes is k value) k ≡ is_broken is (finite.insert records k value)
-clash_breaks [] ts records k value h n clean = refl
-clash_breaks (i ∷ is) [] records k value h n clean = absurd (omega arith)
-clash_breaks (i ∷ is) (t ∷ ts) records k value h n clean =
+-- an index without rows has none of another record
+no_other : (x k : KeyTree) → has_other no_rows x k ≡ false
+no_other x k = ap (λ rs. list_any (is_other x k) rs) none_shown
+
+no_clash : (k : KeyTree) (rows : List RowTree) → clash_in no_rows k rows ≡ false
+no_clash k [] = refl
+no_clash k (r ∷ rows) = ap (λ b. b || clash_in no_rows k rows) (no_other r.0 k) ∙ no_clash k rows
+
+and_none : (a b : Bool) → b ≡ false → (a && b) ≡ false
+and_none true b e = e
+and_none false b e = refl
+
+clash_breaks_none : (is : List IndexInfo) (records : Records) (spare : ℕ) (k : KeyTree) (value : Tree) → InStep is [] records spare → is_broken is records ≡ false → false ≡ is_broken is (finite.insert records k value)
+clash_breaks_none [] records spare k value h clean = refl
+clash_breaks_none (i ∷ is) records spare k value h clean =
     let parts = or_both _ _ clean in
-    (λ j. (i.unique && clash_in (h.0 j) k (rows_of_record i k value)) || clash_breaks is ts records k value h.1 (omega arith) parts.1 j)
+    clash_breaks_none is records spare k value h.2 parts.1 ∙ ap (λ b. b || is_broken is (finite.insert records k value)) (
+        sym (and_none i.unique (clash_in no_rows k (rows_of_record i k value)) (no_clash k (rows_of_record i k value)))
+        ∙ ap (λ s. i.unique && clash_in s k (rows_of_record i k value)) (sym h.0) ∙ breaks i records k value parts.0)
+
+pub clash_breaks : (is : List IndexInfo) (ts : List IndexRows) (records : Records) (spare : ℕ) (k : KeyTree) (value : Tree) → InStep is ts records spare → is_broken is records ≡ false
+    → clash_any is ts (rows_in_indexes is k value) k ≡ is_broken is (finite.insert records k value)
+clash_breaks [] [] records spare k value h clean = refl
+clash_breaks [] (t ∷ ts) records spare k value h clean = absurd h
+clash_breaks (i ∷ is) [] records spare k value h clean = clash_breaks_none (i ∷ is) records spare k value h clean
+clash_breaks (i ∷ is) (t ∷ ts) records spare k value h clean =
+    let parts = or_both _ _ clean in
+    (λ j. (i.unique && clash_in (h.0 j) k (rows_of_record i k value)) || clash_breaks is ts records spare k value h.2 parts.1 j)
     ∙ ap (λ b. b || is_broken is (finite.insert records k value)) (breaks i records k value parts.0)

@@ -1,8 +1,10 @@
 pub mod ByKey
 pub mod Members
 pub mod Matching
-pub mod Walks
 pub mod Changes
+pub mod Walks
 pub mod Lists
 pub mod ClashLaws
 pub mod NewIndex
+pub mod RecordPlaces
+pub mod Laws

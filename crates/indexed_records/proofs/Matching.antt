@@ -1,25 +1,25 @@
 -- Tables of rows that keep in step with the records.
---     nothing_matches       without records no index needs a table
---     kept_match, kept_spares, all_roomy      what making room leaves, and makes
---     can_add, added_match, added_spares      the rows of a new record
---     removed_match, removed_spares           the rows of a record that goes
-use Rattle.std.proofs.Common.{◌≡◌, ℕ, zero, suc, ◌+◌, ◌<◌, ◌≤◌, List, [], ◌∷◌, ◌++◌, refl, sym, ap, ◌∙◌, Some, None, map, length, length-append, take, drop, insert, remove, slice_get, option_map, get_or, arith}
-use Rattle.std.proofs.lemmas.List.{length-map, length-take-le, map-append, take-map, drop-map}
-use Rattle.std.proofs.lemmas.List.Elements.{All-nil, All-cons}
-use Rattle.std.proofs.lemmas.Option.{slice_get-get_or, slice_get-map}
+--     nothing_in_step, nothing_left         without records no index needs a table
+--     kept_in_step, roomy_in_step           what making room leaves, and makes
+--     can_add, added_in_step, removed_in_step, replaced_in_step       a record that comes, goes, or gets another value
+--     filled_in_step, taken_in_step, pushed_in_step, unplaced_in_step, inserted_in_step       indexes and tables that come and go
+--     sets_of, out_of_sets                  all tables taken out, and put back
+use Rattle.std.proofs.Common.{◌≡◌, ℕ, zero, suc, ◌+◌, ◌-◌, ◌<◌, ◌≤◌, List, [], ◌∷◌, ◌++◌, refl, sym, ap, subst, ◌∙◌, Option, Some, None, map, length, length-append, take, drop, insert, remove, slice_get, option_map, get_or, arith}
+use Rattle.std.proofs.lemmas.List.{length-map, length-take-le}
+use Rattle.std.proofs.lemmas.Option.{slice_get-get_or}
 use Rattle.std.specs.FinMap as finite
-use Rattle.std.specs.List.{All, AllByRecursion, flat_map}
+use Rattle.std.specs.List.{AllByRecursion, flat_map}
 use Rattle.clone_values.specs.Tree.{Tree}
 use Rattle.clone_values.specs.KeyTree.{KeyTree}
 use Rattle.key_order.specs.KeyOrder.{key_cmp}
-use Rattle.key_paths.specs.Conversion.{keys_of, AreDistinct}
 use Rattle.idb_schema.specs.declared.definitions.IndexInfo.{IndexInfo}
-use Rattle.index_tables.specs.Rows.{RowTree, RowSet, IndexRows, no_rows, with_rows, without_rows}
-use Rattle.index_rows.specs.Rows.{Records, rows_of_record, index_rows}
-use Rattle.indexed_records.specs.Contents.{rows_in_indexes, AreAtLeast, Fit, AreLessBy}
-use Rattle.indexed_records.specs.Matches.{RowsMatch}
-use Rattle.indexed_records.specs.Walks.{AllChanged, Keeps, HasRoomFor, Adds, Removes, CanAdd, IsFilled}
-use Rattle.index_rows.proofs.Rows.{rows_new, rows_once, rows_with, rows_without}
+use Rattle.index_tables.specs.Rows.{RowTree, RowSet, IndexRows, no_rows, has_row, among, with_rows, without_rows}
+use Rattle.index_tables.specs.RecordRows.{Records, rows_of_record, index_rows}
+use Rattle.index_tables.proofs.Laws.{rows_with, rows_over, rows_without, same_rows, has_no_row, has_without_rows}
+use Rattle.indexed_records.specs.Contents.{rows_in_indexes, rows_among, row_sets}
+use Rattle.indexed_records.specs.Matches.{InStep}
+use Rattle.indexed_records.specs.Walks.{AllChanged, paired, Keeps, HasRoomFor, Adds, Removes, Replaces, CanAdd, IsFilled, IsInserted}
+use Rattle.std.specs.Prelude.{false, true, Bool, not, ◌&&◌}
 
 pub nothing : {A : Type 0} (xs : List A) → length xs ≡ 0 → xs ≡ []
 nothing [] e = refl
@@ -29,126 +29,136 @@ pub rows_of_nothing : (index : IndexInfo) (records : Records) → records ≡ fi
 rows_of_nothing index records e = ap (λ es. with_rows no_rows (flat_map (λ (e : KeyTree × Tree). rows_of_record index e.0 e.1) es))
     (ap finite.entries e ∙ nothing (finite.entries finite.empty) (sym (finite.len-entries finite.empty) ∙ finite.len-empty key_cmp Tree))
 
-nothing_matches_none : (indexes : List IndexInfo) (records : Records) → records ≡ finite.empty → RowsMatch indexes [] records
-nothing_matches_none [] records e = tt
-nothing_matches_none (i ∷ is) records e = (rows_of_nothing i records e, nothing_matches_none is records e)
+nothing_in_step_none : (indexes : List IndexInfo) (records : Records) → records ≡ finite.empty → InStep indexes [] records 0
+nothing_in_step_none [] records e = tt
+nothing_in_step_none (i ∷ is) records e = (rows_of_nothing i records e, refl, nothing_in_step_none is records e)
 
-pub nothing_matches : (indexes : List IndexInfo) (tables : List RowSet) (records : Records) → tables ≡ [] → records ≡ finite.empty → RowsMatch indexes tables records
-nothing_matches indexes tables records none e = rw none (nothing_matches_none indexes records e)
+pub nothing_in_step : (indexes : List IndexInfo) (tables : List IndexRows) (records : Records) → tables ≡ [] → records ≡ finite.empty → InStep indexes tables records 0
+nothing_in_step indexes tables records none e = rw none (nothing_in_step_none indexes records e)
+
+and_none : (b : Bool) → (b && false) ≡ false
+and_none true = refl
+and_none false = refl
+
+pub nothing_left : (rows : List RowTree) → without_rows no_rows rows ≡ no_rows
+nothing_left rows = same_rows _ _ (λ q. has_without_rows no_rows rows q ∙ ap (λ b. not (among rows q) && b) (has_no_row q) ∙ and_none _ ∙ sym (has_no_row q))
+
+no_more : (rows : List RowTree) → length rows ≡ 0 → with_rows no_rows rows ≡ no_rows
+no_more rows e = ap (with_rows no_rows) (nothing rows e)
+
+pub counted_within : (is : List IndexInfo) (os : List IndexRows) (records : Records) (spare : ℕ) → InStep is os records spare → length os ≤ length is
+counted_within [] [] records spare h = omega arith
+counted_within [] (o ∷ os) records spare h = absurd h
+counted_within (i ∷ is) [] records spare h = omega arith
+counted_within (i ∷ is) (o ∷ os) records spare h = omega (arith, counted_within is os records spare h.2)
 
 -- ---- room is made
-pub kept_rows : (os ns : List IndexRows) → AllChanged Keeps os os ns → map (λ t. t.rows) ns ≡ map (λ t. t.rows) os
-kept_rows [] [] h = refl
-kept_rows [] (n ∷ ns) h = absurd h
-kept_rows (o ∷ os) [] h = absurd h
-kept_rows (o ∷ os) (n ∷ ns) h = λ i. h.0.0 i ∷ kept_rows os ns h.1 i
+pub kept_in_step : (is : List IndexInfo) (os ns : List IndexRows) (records : Records) (spare : ℕ) → AllChanged Keeps os os ns → InStep is os records spare → InStep is ns records spare
+kept_in_step is [] [] records spare kept h = h
+kept_in_step is [] (n ∷ ns) records spare kept h = absurd kept
+kept_in_step is (o ∷ os) [] records spare kept h = absurd kept
+kept_in_step [] (o ∷ os) (n ∷ ns) records spare kept h = absurd h
+kept_in_step (i ∷ is) (o ∷ os) (n ∷ ns) records spare kept h = (kept.0.0 ∙ h.0, omega (arith, kept.0.1, h.1), kept_in_step is os ns records spare kept.1 h.2)
 
-pub kept_match : (indexes : List IndexInfo) (os ns : List IndexRows) (records : Records) → AllChanged Keeps os os ns → RowsMatch indexes (map (λ t. t.rows) os) records → RowsMatch indexes (map (λ t. t.rows) ns) records
-kept_match indexes os ns records kept h = rw (kept_rows os ns kept) h
+pub roomy_in_step : (is : List IndexInfo) (os ns : List IndexRows) (records : Records) (spare rows : ℕ) → length is ≤ length os → AllChanged Keeps os os ns → AllChanged (HasRoomFor rows) os os ns → InStep is os records spare → InStep is ns records rows
+roomy_in_step [] [] [] records spare rows n kept room h = tt
+roomy_in_step (i ∷ is) [] [] records spare rows n kept room h = absurd (omega arith)
+roomy_in_step is [] (m ∷ ns) records spare rows n kept room h = absurd kept
+roomy_in_step is (o ∷ os) [] records spare rows n kept room h = absurd kept
+roomy_in_step [] (o ∷ os) (m ∷ ns) records spare rows n kept room h = absurd h
+roomy_in_step (i ∷ is) (o ∷ os) (m ∷ ns) records spare rows n kept room h = (kept.0.0 ∙ h.0, room.0, roomy_in_step is os ns records spare rows (omega arith) kept.1 room.1 h.2)
 
-pub all_roomy : (rows : ℕ) (os ns : List IndexRows) → AllChanged (HasRoomFor rows) os os ns → All (λ spare. rows ≤ spare) (map (λ t. t.spare) ns)
-all_roomy rows [] [] h = All-nil (λ spare. rows ≤ spare)
-all_roomy rows [] (n ∷ ns) h = absurd h
-all_roomy rows (o ∷ os) [] h = absurd h
-all_roomy rows (o ∷ os) (n ∷ ns) h = All-cons (λ spare. rows ≤ spare) n.spare _ h.0 (all_roomy rows os ns h.1)
+-- ---- a record comes, goes, or gets another value
+pub can_add : (k : KeyTree) (value : Tree) (records : Records) (spare : ℕ) (is : List IndexInfo) (os : List IndexRows) → InStep is os records spare → rows_among (rows_in_indexes is k value) ≤ spare
+    → AllChanged CanAdd (rows_in_indexes is k value) os os
+can_add k value records spare [] [] h room = tt
+can_add k value records spare [] (o ∷ os) h room = absurd h
+can_add k value records spare (i ∷ is) [] h room = tt
+can_add k value records spare (i ∷ is) (o ∷ os) h room = (omega (arith, h.1, room), can_add k value records spare is os h.2 (omega (arith, room)))
 
-module _ {A : Type 0} (R : A → IndexRows → IndexRows → Type 0) where
-  pub same_count : (xs : List A) (os ns : List IndexRows) → AllChanged R xs os ns → length (map (λ t. t.spare) ns) ≡ length (map (λ t. t.spare) os)
-  same_count xs [] [] h = refl
-  same_count xs [] (n ∷ ns) h = absurd h
-  same_count xs (o ∷ os) [] h = absurd h
-  same_count [] (o ∷ os) (n ∷ ns) h = absurd h
-  same_count (x ∷ xs) (o ∷ os) (n ∷ ns) h = ap suc (same_count xs os ns h.1)
-
--- no table loses spare places
-pub all_rise : {A : Type 0} (R : A → IndexRows → IndexRows → Type 0) → ((a : A) (o n : IndexRows) → R a o n → o.spare ≤ n.spare) → (xs : List A) (os ns : List IndexRows) → AllChanged R xs os ns → AreAtLeast (map (λ t. t.spare) os) (map (λ t. t.spare) ns)
-all_rise R f xs [] [] h = tt
-all_rise R f xs [] (n ∷ ns) h = absurd h
-all_rise R f xs (o ∷ os) [] h = absurd h
-all_rise R f [] (o ∷ os) (n ∷ ns) h = absurd h
-all_rise R f (x ∷ xs) (o ∷ os) (n ∷ ns) h = (f x o n h.0, all_rise R f xs os ns h.1)
-
-pub kept_spares : (os ns : List IndexRows) → AllChanged Keeps os os ns → AreAtLeast (map (λ t. t.spare) os) (map (λ t. t.spare) ns)
-kept_spares os ns h = all_rise Keeps (λ a o n k. k.1) os os ns h
-
-pub removed_spares : (rows : List (List RowTree)) (os ns : List IndexRows) → AllChanged Removes rows os ns → AreAtLeast (map (λ t. t.spare) os) (map (λ t. t.spare) ns)
-removed_spares rows os ns h = all_rise Removes (λ a o n k. k.1) rows os ns h
-
--- ---- a record comes
 module _ (records : Records) (k : KeyTree) (value : Tree) where
-  pub can_add : ((ts : List Tree) → AreDistinct (keys_of ts)) → finite.get records k ≡ None → (indexes : List IndexInfo) (os : List IndexRows) → RowsMatch indexes (map (λ t. t.rows) os) records
-      → length (map (λ t. t.spare) os) ≡ length indexes → Fit (rows_in_indexes indexes k value) (map (λ t. t.spare) os) → AllChanged CanAdd (rows_in_indexes indexes k value) os os
-  can_add law absent [] [] h n fit = tt
-  can_add law absent [] (o ∷ os) h n fit = absurd h
-  can_add law absent (i ∷ is) [] h n fit = absurd (omega arith)
-  can_add law absent (i ∷ is) (o ∷ os) h n fit =
-      ((fit.0, rw h.0 (rows_new i records k value absent), rows_once law i k value), can_add law absent is os h.1 (omega arith) fit.1)
+  pub added_in_step : finite.get records k ≡ None → (spare left : ℕ) (is : List IndexInfo) (os ns : List IndexRows) → InStep is os records spare → left + rows_among (rows_in_indexes is k value) ≤ spare
+      → AllChanged Adds (rows_in_indexes is k value) os ns → InStep is ns (finite.insert records k value) left
+  added_in_step absent spare left [] [] [] h room added = tt
+  added_in_step absent spare left [] [] (m ∷ ns) h room added = absurd added
+  added_in_step absent spare left [] (o ∷ os) ns h room added = absurd h
+  added_in_step absent spare left (i ∷ is) [] [] h room added = (
+    rows_with i records k value absent ∙ ap (λ s. with_rows s (rows_of_record i k value)) h.0 ∙ no_more (rows_of_record i k value) (omega (arith, h.1, room)),
+    omega (arith, h.1, room),
+    added_in_step absent spare left is [] [] h.2 (omega (arith, room)) tt,
+  )
+  added_in_step absent spare left (i ∷ is) [] (m ∷ ns) h room added = absurd added
+  added_in_step absent spare left (i ∷ is) (o ∷ os) [] h room added = absurd added
+  added_in_step absent spare left (i ∷ is) (o ∷ os) (m ∷ ns) h room added = (
+    added.0.0 ∙ ap (λ s. with_rows s (rows_of_record i k value)) h.0 ∙ sym (rows_with i records k value absent),
+    omega (arith, added.0.1, h.1, room),
+    added_in_step absent spare left is os ns h.2 (omega (arith, room)) added.1,
+  )
 
-  pub added_match : finite.get records k ≡ None → (indexes : List IndexInfo) (os ns : List IndexRows) → RowsMatch indexes (map (λ t. t.rows) os) records → length (map (λ t. t.spare) os) ≡ length indexes
-      → AllChanged Adds (rows_in_indexes indexes k value) os ns → RowsMatch indexes (map (λ t. t.rows) ns) (finite.insert records k value)
-  added_match absent [] [] [] h n added = tt
-  added_match absent [] [] (m ∷ ns) h n added = absurd added
-  added_match absent [] (o ∷ os) ns h n added = absurd h
-  added_match absent (i ∷ is) [] ns h n added = absurd (omega arith)
-  added_match absent (i ∷ is) (o ∷ os) [] h n added = absurd added
-  added_match absent (i ∷ is) (o ∷ os) (m ∷ ns) h n added =
-      (added.0.0 ∙ ap (λ s. with_rows s (rows_of_record i k value)) h.0 ∙ sym (rows_with i records k value absent), added_match absent is os ns h.1 (omega arith) added.1)
+  pub removed_in_step : finite.get records k ≡ Some value → (spare : ℕ) (is : List IndexInfo) (os ns : List IndexRows) → InStep is os records spare
+      → AllChanged Removes (rows_in_indexes is k value) os ns → InStep is ns (finite.remove records k) spare
+  removed_in_step there spare [] [] [] h gone = tt
+  removed_in_step there spare [] [] (m ∷ ns) h gone = absurd gone
+  removed_in_step there spare [] (o ∷ os) ns h gone = absurd h
+  removed_in_step there spare (i ∷ is) [] [] h gone = (
+    rows_without i records k value there ∙ ap (λ s. without_rows s (rows_of_record i k value)) h.0 ∙ nothing_left (rows_of_record i k value),
+    h.1,
+    removed_in_step there spare is [] [] h.2 tt,
+  )
+  removed_in_step there spare (i ∷ is) [] (m ∷ ns) h gone = absurd gone
+  removed_in_step there spare (i ∷ is) (o ∷ os) [] h gone = absurd gone
+  removed_in_step there spare (i ∷ is) (o ∷ os) (m ∷ ns) h gone = (
+    gone.0.0 ∙ ap (λ s. without_rows s (rows_of_record i k value)) h.0 ∙ sym (rows_without i records k value there),
+    omega (arith, gone.0.1, h.1),
+    removed_in_step there spare is os ns h.2 gone.1,
+  )
 
-  pub removed_match : finite.get records k ≡ Some value → (indexes : List IndexInfo) (os ns : List IndexRows) → RowsMatch indexes (map (λ t. t.rows) os) records → length (map (λ t. t.spare) os) ≡ length indexes
-      → AllChanged Removes (rows_in_indexes indexes k value) os ns → RowsMatch indexes (map (λ t. t.rows) ns) (finite.remove records k)
-  removed_match there [] [] [] h n gone = tt
-  removed_match there [] [] (m ∷ ns) h n gone = absurd gone
-  removed_match there [] (o ∷ os) ns h n gone = absurd h
-  removed_match there (i ∷ is) [] ns h n gone = absurd (omega arith)
-  removed_match there (i ∷ is) (o ∷ os) [] h n gone = absurd gone
-  removed_match there (i ∷ is) (o ∷ os) (m ∷ ns) h n gone =
-      (gone.0.0 ∙ ap (λ s. without_rows s (rows_of_record i k value)) h.0 ∙ sym (rows_without i records k value there), removed_match there is os ns h.1 (omega arith) gone.1)
+  pub replaced_in_step : (old : Tree) → finite.get records k ≡ Some old → (spare left : ℕ) (is : List IndexInfo) (os ns : List IndexRows) → InStep is os records spare
+      → left + rows_among (rows_in_indexes is k value) ≤ spare → AllChanged Replaces (paired (rows_in_indexes is k old) (rows_in_indexes is k value)) os ns → InStep is ns (finite.insert records k value) left
+  replaced_in_step old there spare left [] [] [] h room put = tt
+  replaced_in_step old there spare left [] [] (m ∷ ns) h room put = absurd put
+  replaced_in_step old there spare left [] (o ∷ os) ns h room put = absurd h
+  replaced_in_step old there spare left (i ∷ is) [] [] h room put = (
+    rows_over i records k value old there ∙ ap (λ s. with_rows (without_rows s (rows_of_record i k old)) (rows_of_record i k value)) h.0
+        ∙ ap (λ s. with_rows s (rows_of_record i k value)) (nothing_left (rows_of_record i k old)) ∙ no_more (rows_of_record i k value) (omega (arith, h.1, room)),
+    omega (arith, h.1, room),
+    replaced_in_step old there spare left is [] [] h.2 (omega (arith, room)) tt,
+  )
+  replaced_in_step old there spare left (i ∷ is) [] (m ∷ ns) h room put = absurd put
+  replaced_in_step old there spare left (i ∷ is) (o ∷ os) [] h room put = absurd put
+  replaced_in_step old there spare left (i ∷ is) (o ∷ os) (m ∷ ns) h room put = (
+    put.0.0 ∙ ap (λ s. with_rows (without_rows s (rows_of_record i k old)) (rows_of_record i k value)) h.0 ∙ sym (rows_over i records k value old there),
+    omega (arith, put.0.1, h.1, room),
+    replaced_in_step old there spare left is os ns h.2 (omega (arith, room)) put.1,
+  )
 
-pub added_spares : (rows : List (List RowTree)) (os ns : List IndexRows) → AllChanged Adds rows os ns → AreLessBy rows (map (λ t. t.spare) os) (map (λ t. t.spare) ns)
-added_spares rows [] [] h = refl
-added_spares rows [] (n ∷ ns) h = absurd h
-added_spares rows (o ∷ os) [] h = absurd h
-added_spares [] (o ∷ os) (n ∷ ns) h = absurd h
-added_spares (r ∷ rows) (o ∷ os) (n ∷ ns) h = (h.0.1, added_spares rows os ns h.1)
+-- ---- tables that come and go
+filled_on : (is : List IndexInfo) (os fresh : List IndexRows) (records : Records) (spare : ℕ) → InStep is os records spare → length os + length fresh ≤ length is
+    → AllByRecursion (λ t. (t.rows ≡ no_rows) × (t.spare ≡ 0)) fresh → InStep is (os ++ fresh) records spare
+filled_on [] [] [] records spare h n empty = tt
+filled_on [] [] (f ∷ fs) records spare h n empty = absurd (omega arith)
+filled_on [] (o ∷ os) fresh records spare h n empty = absurd h
+filled_on (i ∷ is) [] [] records spare h n empty = h
+filled_on (i ∷ is) [] (f ∷ fs) records spare h n empty = (empty.0.0 ∙ sym h.0, omega (arith, h.1), filled_on is [] fs records spare h.2 (omega arith) empty.1)
+filled_on (i ∷ is) (o ∷ os) fresh records spare h n empty = (h.0, h.1, filled_on is os fresh records spare h.2 (omega arith) empty)
 
--- ---- tables that come and go at the end
-pub one_more_empty : (ts : List IndexRows) (t : IndexRows) → AllByRecursion (λ t. (t.rows ≡ no_rows) × (t.spare ≡ 0)) ts → t.rows ≡ no_rows → t.spare ≡ 0 → AllByRecursion (λ t. (t.rows ≡ no_rows) × (t.spare ≡ 0)) (ts ++ t ∷ [])
-one_more_empty [] t h rows spare = ((rows, spare), tt)
-one_more_empty (u ∷ ts) t h rows spare = (h.0, one_more_empty ts t h.1 rows spare)
+pub filled_in_step : (count : ℕ) (is : List IndexInfo) (os ns : List IndexRows) (records : Records) (spare : ℕ) → count ≤ length is → InStep is os records spare → IsFilled count os ns → InStep is ns records spare
+filled_in_step count is os ns records spare le h filled = rw filled.1 (filled_on is os filled.0 records spare h (omega (arith, filled.2.0, counted_within is os records spare h)) filled.2.1)
 
-pub matched_within : (is : List IndexInfo) (os : List IndexRows) (records : Records) → RowsMatch is (map (λ t. t.rows) os) records → length os ≤ length is
-matched_within [] [] records h = omega arith
-matched_within [] (o ∷ os) records h = absurd h
-matched_within (i ∷ is) [] records h = omega arith
-matched_within (i ∷ is) (o ∷ os) records h = omega (arith, matched_within is os records h.1)
+pub filled_count : (count : ℕ) (os ns : List IndexRows) → IsFilled count os ns → count ≤ length ns
+filled_count count os ns filled = omega (arith, ap length filled.1, length-append os filled.0, filled.2.0)
 
-filled_in : (is : List IndexInfo) (os fresh : List IndexRows) (records : Records) → RowsMatch is (map (λ t. t.rows) os) records → length os + length fresh ≤ length is
-    → AllByRecursion (λ t. (t.rows ≡ no_rows) × (t.spare ≡ 0)) fresh → RowsMatch is (map (λ t. t.rows) (os ++ fresh)) records
-filled_in [] [] [] records h n empty = tt
-filled_in [] [] (f ∷ fs) records h n empty = absurd (omega arith)
-filled_in [] (o ∷ os) fresh records h n empty = absurd h
-filled_in (i ∷ is) [] [] records h n empty = h
-filled_in (i ∷ is) [] (f ∷ fs) records h n empty = (empty.0.0 ∙ sym h.0, filled_in is [] fs records h.1 (omega arith) empty.1)
-filled_in (i ∷ is) (o ∷ os) fresh records h n empty = (h.0, filled_in is os fresh records h.1 (omega arith) empty)
-
-pub filled_match : (is : List IndexInfo) (os ns : List IndexRows) (records : Records) → RowsMatch is (map (λ t. t.rows) os) records → IsFilled (length is) os ns → RowsMatch is (map (λ t. t.rows) ns) records
-filled_match is os ns records h filled = rw filled.1 (filled_in is os filled.0 records h (omega (arith, filled.2.0, matched_within is os records h)) filled.2.1)
-
-pub filled_complete : (is : List IndexInfo) (os ns : List IndexRows) (records : Records) → RowsMatch is (map (λ t. t.rows) os) records → IsFilled (length is) os ns → length (map (λ t. t.spare) ns) ≡ length is
-filled_complete is os ns records h filled =
-    length-map {B = ℕ} ns (λ t. t.spare) ∙ omega (arith, ap length filled.1, length-append os filled.0, filled.2.0, matched_within is os records h)
-
-pub taken_match : (n : ℕ) (is : List IndexInfo) (os : List IndexRows) (records : Records) → RowsMatch is (map (λ t. t.rows) os) records → RowsMatch (take n is) (map (λ t. t.rows) (take n os)) records
-taken_match zero is os records h = tt
-taken_match (suc n) [] [] records h = tt
-taken_match (suc n) [] (o ∷ os) records h = absurd h
-taken_match (suc n) (i ∷ is) [] records h = (h.0, none_match n is records h.1)
+pub taken_in_step : (n : ℕ) (is : List IndexInfo) (os : List IndexRows) (records : Records) (spare : ℕ) → InStep is os records spare → InStep (take n is) (take n os) records spare
+taken_in_step zero is os records spare h = tt
+taken_in_step (suc n) [] [] records spare h = tt
+taken_in_step (suc n) [] (o ∷ os) records spare h = absurd h
+taken_in_step (suc n) (i ∷ is) [] records spare h = (h.0, h.1, none_in_step n is records spare h.2)
   where
-    none_match : (n : ℕ) (is : List IndexInfo) (records : Records) → RowsMatch is [] records → RowsMatch (take n is) [] records
-    none_match zero is records h = tt
-    none_match (suc n) [] records h = tt
-    none_match (suc n) (i ∷ is) records h = (h.0, none_match n is records h.1)
-taken_match (suc n) (i ∷ is) (o ∷ os) records h = (h.0, taken_match n is os records h.1)
+    none_in_step : (n : ℕ) (is : List IndexInfo) (records : Records) (spare : ℕ) → InStep is [] records spare → InStep (take n is) [] records spare
+    none_in_step zero is records spare h = tt
+    none_in_step (suc n) [] records spare h = tt
+    none_in_step (suc n) (i ∷ is) records spare h = (h.0, h.1, none_in_step n is records spare h.2)
+taken_in_step (suc n) (i ∷ is) (o ∷ os) records spare h = (h.0, h.1, taken_in_step n is os records spare h.2)
 
 pub none_left : {A : Type 0} (n : ℕ) (xs : List A) → length xs ≤ n → drop n xs ≡ []
 none_left zero [] h = refl
@@ -163,66 +173,100 @@ last_removed xs n e = ap (λ rest. take n xs ++ rest) (none_left (suc n) xs (ome
     append_nil [] = refl
     append_nil (x ∷ xs) = ap (λ ys. x ∷ ys) (append_nil xs)
 
-pub last_counted : {A : Type 0} (xs news : List A) (n : ℕ) → length xs ≡ n + 1 → news ≡ remove xs n → length news ≡ n
-last_counted xs news n e left = ap length (left ∙ last_removed xs n e) ∙ length-take-le n xs (omega arith)
+pub pushed_in_step : (is : List IndexInfo) (os : List IndexRows) (records : Records) (spare : ℕ) (i : IndexInfo) (t : IndexRows) → InStep is os records spare → length is ≤ length os → t.rows ≡ index_rows i records → spare ≤ t.spare
+    → InStep (is ++ i ∷ []) (os ++ t ∷ []) records spare
+pushed_in_step [] [] records spare i t h n rows room = (rows, room, tt)
+pushed_in_step [] (o ∷ os) records spare i t h n rows room = absurd h
+pushed_in_step (j ∷ is) [] records spare i t h n rows room = absurd (omega arith)
+pushed_in_step (j ∷ is) (o ∷ os) records spare i t h n rows room = (h.0, h.1, pushed_in_step is os records spare i t h.2 (omega arith) rows room)
 
-pub pushed_match : (is : List IndexInfo) (os : List IndexRows) (records : Records) (i : IndexInfo) (t : IndexRows) → RowsMatch is (map (λ t. t.rows) os) records → length (map (λ t. t.spare) os) ≡ length is → t.rows ≡ index_rows i records
-    → RowsMatch (is ++ i ∷ []) (map (λ t. t.rows) (os ++ t ∷ [])) records
-pushed_match [] [] records i t h n rows = (rows, tt)
-pushed_match [] (o ∷ os) records i t h n rows = absurd h
-pushed_match (j ∷ is) [] records i t h n rows = absurd (omega arith)
-pushed_match (j ∷ is) (o ∷ os) records i t h n rows = (h.0, pushed_match is os records i t h.1 (omega arith) rows)
+pub unplaced_in_step : (n : ℕ) (is : List IndexInfo) (os : List IndexRows) (records : Records) (spare : ℕ) → InStep is os records spare → length is ≤ length os → n < length is → InStep (remove is n) (remove os n) records spare
+unplaced_in_step n [] os records spare h e lt = absurd (omega arith)
+unplaced_in_step n (i ∷ is) [] records spare h e lt = absurd (omega arith)
+unplaced_in_step zero (i ∷ is) (o ∷ os) records spare h e lt = h.2
+unplaced_in_step (suc n) (i ∷ is) (o ∷ os) records spare h e lt = (h.0, h.1, unplaced_in_step n is os records spare h.2 (omega arith) (omega arith))
 
-pub pushed_count : (is : List IndexInfo) (os : List IndexRows) (i : IndexInfo) (t : IndexRows) → length (map (λ t. t.spare) os) ≡ length is → length (map (λ t. t.spare) (os ++ t ∷ [])) ≡ length (is ++ i ∷ [])
-pushed_count is os i t n = length-map {B = ℕ} (os ++ t ∷ []) (λ t. t.spare) ∙ length-append os (t ∷ []) ∙ omega (arith, n, length-map {B = ℕ} os (λ t. t.spare), length-append is (i ∷ []))
+-- the table of an index that is there
+pub table_there : (n : ℕ) (is : List IndexInfo) (os : List IndexRows) (records : Records) (spare : ℕ) → InStep is os records spare → length is ≤ length os → n < length is
+    → (t : IndexRows) × (slice_get os n ≡ Some t) × (spare ≤ t.spare)
+table_there n [] os records spare h e lt = absurd (omega arith)
+table_there n (i ∷ is) [] records spare h e lt = absurd (omega arith)
+table_there zero (i ∷ is) (o ∷ os) records spare h e lt = (o, refl, h.1)
+table_there (suc n) (i ∷ is) (o ∷ os) records spare h e lt = table_there n is os records spare h.2 (omega arith) (omega arith)
 
-pub pushed_spares : (os : List IndexRows) (t : IndexRows) → AreAtLeast (map (λ t. t.spare) os) (map (λ t. t.spare) (os ++ t ∷ []))
-pushed_spares [] t = tt
-pushed_spares (o ∷ os) t = (omega arith, pushed_spares os t)
+pub rows_there : (n : ℕ) (is : List IndexInfo) (os : List IndexRows) (records : Records) (spare : ℕ) (i : IndexInfo) (rows : RowSet) → InStep is os records spare → slice_get is n ≡ Some i
+    → option_map (λ (t : IndexRows). t.rows) (slice_get os n) ≡ Some rows → rows ≡ index_rows i records
+rows_there n [] os records spare i rows h at there = cc
+rows_there n (j ∷ is) [] records spare i rows h at there = cc
+rows_there zero (j ∷ is) (o ∷ os) records spare i rows h at there = let one : rows ≡ o.rows = cc in let two : j ≡ i = cc in one ∙ h.0 ∙ ap (λ i. index_rows i records) two
+rows_there (suc n) (j ∷ is) (o ∷ os) records spare i rows h at there = rows_there n is os records spare i rows h.2 at there
 
-pub same_spares : (ms : List ℕ) → AreAtLeast ms ms
-same_spares [] = tt
-same_spares (m ∷ ms) = (omega arith, same_spares ms)
+less_in_step : (is : List IndexInfo) (os : List IndexRows) (records : Records) (spare left : ℕ) → left ≤ spare → InStep is os records spare → InStep is os records left
+less_in_step [] [] records spare left le h = tt
+less_in_step [] (o ∷ os) records spare left le h = absurd h
+less_in_step (i ∷ is) [] records spare left le h = (h.0, omega (arith, h.1, le), less_in_step is [] records spare left le h.2)
+less_in_step (i ∷ is) (o ∷ os) records spare left le h = (h.0, omega (arith, h.1, le), less_in_step is os records spare left le h.2)
 
--- ---- an index goes from its place, or comes to it
-pub unplaced_match : (n : ℕ) (is : List IndexInfo) (os : List IndexRows) (records : Records) → RowsMatch is (map (λ t. t.rows) os) records → length (map (λ t. t.spare) os) ≡ length is → n < length is
-    → RowsMatch (remove is n) (map (λ t. t.rows) (remove os n)) records
-unplaced_match n [] os records h e lt = absurd (omega arith)
-unplaced_match n (i ∷ is) [] records h e lt = absurd (omega arith)
-unplaced_match zero (i ∷ is) (o ∷ os) records h e lt = h.1
-unplaced_match (suc n) (i ∷ is) (o ∷ os) records h e lt = (h.0, unplaced_match n is os records h.1 (omega arith) (omega arith))
+placed_in_step : (n : ℕ) (is : List IndexInfo) (os : List IndexRows) (records : Records) (spare : ℕ) (i : IndexInfo) (t : IndexRows) → InStep is os records spare → n ≤ length os → n ≤ length is
+    → t.rows ≡ index_rows i records → spare ≤ t.spare → InStep (insert is n i) (insert os n t) records spare
+placed_in_step zero is os records spare i t h e le rows room = (rows, room, h)
+placed_in_step (suc n) [] os records spare i t h e le rows room = absurd (omega arith)
+placed_in_step (suc n) (j ∷ is) [] records spare i t h e le rows room = absurd (omega arith)
+placed_in_step (suc n) (j ∷ is) (o ∷ os) records spare i t h e le rows room = (h.0, h.1, placed_in_step n is os records spare i t h.2 (omega arith) (omega arith) rows room)
 
-pub placed_match : (n : ℕ) (is : List IndexInfo) (os : List IndexRows) (records : Records) (i : IndexInfo) (t : IndexRows) → RowsMatch is (map (λ t. t.rows) os) records → length (map (λ t. t.spare) os) ≡ length is → n ≤ length is
-    → t.rows ≡ index_rows i records → RowsMatch (insert is n i) (map (λ t. t.rows) (insert os n t)) records
-placed_match zero [] [] records i t h e le rows = (rows, tt)
-placed_match zero [] (o ∷ os) records i t h e le rows = absurd h
-placed_match zero (j ∷ is) [] records i t h e le rows = absurd (omega arith)
-placed_match zero (j ∷ is) (o ∷ os) records i t h e le rows = (rows, h)
-placed_match (suc n) [] os records i t h e le rows = absurd (omega arith)
-placed_match (suc n) (j ∷ is) [] records i t h e le rows = absurd (omega arith)
-placed_match (suc n) (j ∷ is) (o ∷ os) records i t h e le rows = (h.0, placed_match n is os records i t h.1 (omega arith) (omega arith) rows)
+pub inserted_in_step : (n : ℕ) (is : List IndexInfo) (os ns : List IndexRows) (records : Records) (spare left : ℕ) (i : IndexInfo) (t : IndexRows) → InStep is os records spare → n ≤ length is
+    → t.rows ≡ index_rows i records → left ≤ spare → left ≤ t.spare → IsInserted n t os ns → InStep (insert is n i) ns records left
+inserted_in_step n is os ns records spare left i t h le rows less room new =
+    let filled = filled_in_step n is os new.0 records spare le h new.1 in
+    rw new.2 (placed_in_step n is new.0 records left i t (less_in_step is new.0 records spare left less filled) (filled_count n os new.0 new.1) le rows room)
 
-pub matched_at : (n : ℕ) (is : List IndexInfo) (os : List IndexRows) (records : Records) (i : IndexInfo) (t : IndexRows) → RowsMatch is (map (λ t. t.rows) os) records → slice_get is n ≡ Some i → slice_get os n ≡ Some t → t.rows ≡ index_rows i records
-matched_at n [] os records i t h at there = cc
-matched_at n (j ∷ is) [] records i t h at there = cc
-matched_at zero (j ∷ is) (o ∷ os) records i t h at there = let one : j ≡ i = cc in let two : o ≡ t = cc in ap (λ t. t.rows) (sym two) ∙ h.0 ∙ ap (λ i. index_rows i records) one
-matched_at (suc n) (j ∷ is) (o ∷ os) records i t h at there = matched_at n is os records i t h.1 at there
+-- what was taken out at a place is the table of its index
+module _ (n : ℕ) (is : List IndexInfo) (os : List IndexRows) (records : Records) (spare : ℕ) (h : InStep is os records spare) (count : length is ≤ length os) (lt : n < length is) (t : IndexRows) (value : t ≡ get_or os n t) where
+  taken_there : slice_get os n ≡ Some t
+  taken_there = slice_get-get_or os n t (omega (arith, count, lt)) ∙ ap Some (sym value)
 
-pub map_remove : {A B : Type 0} (f : A → B) (xs : List A) (n : ℕ) → map f (remove xs n) ≡ remove (map f xs) n
-map_remove f xs n = map-append f (take n xs) (drop (suc n) xs) ∙ sym (λ i. take-map f n xs i ++ drop-map f (suc n) xs i)
+  pub taken_room : spare ≤ t.spare
+  taken_room = let u = table_there n is os records spare h count lt in let same : u.0 ≡ t = some_same (sym u.1 ∙ taken_there) in omega (arith, u.2, ap (λ (t : IndexRows). t.spare) same)
+    where
+      some_same : {A : Type 0} {x y : A} → Some x ≡ Some y → x ≡ y
+      some_same e = cc
 
-pub map_insert : {A B : Type 0} (f : A → B) (xs : List A) (n : ℕ) (x : A) → map f (insert xs n x) ≡ insert (map f xs) n (f x)
-map_insert f xs n x = map-append f (take n xs) (x ∷ drop n xs) ∙ sym (λ i. take-map f n xs i ++ f x ∷ drop-map f n xs i)
+  pub taken_rows : (i : IndexInfo) → slice_get is n ≡ Some i → t.rows ≡ index_rows i records
+  taken_rows i at = rows_there n is os records spare i t.rows h at (ap (option_map (λ (t : IndexRows). t.rows)) taken_there)
 
-pub unplaced_count : (n : ℕ) (is : List IndexInfo) (os : List IndexRows) → length (map (λ t. t.spare) os) ≡ length is → n < length is → length (map (λ t. t.spare) (remove os n)) ≡ length (remove is n)
-unplaced_count n [] os e lt = absurd (omega arith)
-unplaced_count n (i ∷ is) [] e lt = absurd (omega arith)
-unplaced_count zero (i ∷ is) (o ∷ os) e lt = omega (arith, e)
-unplaced_count (suc n) (i ∷ is) (o ∷ os) e lt = ap suc (unplaced_count n is os (omega arith) (omega arith))
+-- ---- all tables taken out, put back, and copied
+pub sets_of : (is : List IndexInfo) (os : List IndexRows) (records : Records) (spare : ℕ) → InStep is os records spare → length is ≤ length os → map (λ t. t.rows) os ≡ row_sets is records
+sets_of [] [] records spare h n = refl
+sets_of [] (o ∷ os) records spare h n = absurd h
+sets_of (i ∷ is) [] records spare h n = absurd (omega arith)
+sets_of (i ∷ is) (o ∷ os) records spare h n = λ j. h.0 j ∷ sets_of is os records spare h.2 (omega arith) j
 
--- the table that goes
-pub table_at : (n : ℕ) (is : List IndexInfo) (os : List IndexRows) (t : IndexRows) → length (map (λ t. t.spare) os) ≡ length is → n < length is → t ≡ get_or os n t → slice_get os n ≡ Some t
-table_at n is os t e lt value = slice_get-get_or os n t (omega (arith, e, lt, length-map {B = ℕ} os (λ t. t.spare))) ∙ ap Some (sym value)
+pub room_of : (is : List IndexInfo) (os : List IndexRows) (records : Records) (spare : ℕ) → InStep is os records spare → AllByRecursion (λ t. spare ≤ t.spare) os
+room_of [] [] records spare h = tt
+room_of [] (o ∷ os) records spare h = absurd h
+room_of (i ∷ is) [] records spare h = tt
+room_of (i ∷ is) (o ∷ os) records spare h = (h.1, room_of is os records spare h.2)
 
-pub spare_at : (n : ℕ) (os : List IndexRows) (t : IndexRows) → slice_get os n ≡ Some t → slice_get (map (λ t. t.spare) os) n ≡ Some t.spare
-spare_at n os t e = slice_get-map (λ t. t.spare) os n ∙ ap (option_map (λ t. t.spare)) e
+pub out_of_sets : (is : List IndexInfo) (os : List IndexRows) (records : Records) (spare : ℕ) → map (λ t. t.rows) os ≡ row_sets is records → AllByRecursion (λ t. spare ≤ t.spare) os → InStep is os records spare
+out_of_sets [] [] records spare e room = tt
+out_of_sets [] (o ∷ os) records spare e room = cc
+out_of_sets (i ∷ is) [] records spare e room = cc
+out_of_sets (i ∷ is) (o ∷ os) records spare e room = (head_same e, room.0, out_of_sets is os records spare (tail_same e) room.1)
+  where
+    head_same : {A : Type 0} {x y : A} {xs ys : List A} → x ∷ xs ≡ y ∷ ys → x ≡ y
+    head_same e = cc
+    tail_same : {A : Type 0} {x y : A} {xs ys : List A} → x ∷ xs ≡ y ∷ ys → xs ≡ ys
+    tail_same e = cc
+
+pub copied_in_step : (is : List IndexInfo) (os ns : List IndexRows) (records : Records) (spare : ℕ) → map (λ t. t.rows) ns ≡ map (λ t. t.rows) os → InStep is os records spare → InStep is ns records 0
+copied_in_step [] [] [] records spare e h = tt
+copied_in_step is [] (m ∷ ns) records spare e h = cc
+copied_in_step is (o ∷ os) [] records spare e h = cc
+copied_in_step [] (o ∷ os) (m ∷ ns) records spare e h = absurd h
+copied_in_step (i ∷ is) [] [] records spare e h = (h.0, refl, copied_in_step is [] [] records spare e h.2)
+copied_in_step (i ∷ is) (o ∷ os) (m ∷ ns) records spare e h = (head_same e ∙ h.0, omega arith, copied_in_step is os ns records spare (tail_same e) h.2)
+  where
+    head_same : {A : Type 0} {x y : A} {xs ys : List A} → x ∷ xs ≡ y ∷ ys → x ≡ y
+    head_same e = cc
+    tail_same : {A : Type 0} {x y : A} {xs ys : List A} → x ∷ xs ≡ y ∷ ys → xs ≡ ys
+    tail_same e = cc

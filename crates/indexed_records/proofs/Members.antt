@@ -15,7 +15,7 @@ use Rattle.clone_values.specs.declared.key_types.Key.{Key}
 use Rattle.clone_values.specs.declared.value_types.Value.{Value}
 use Rattle.clone_values.specs.KeyTree.{KeyTree}
 use Rattle.clone_values.specs.View.{key_tree_of}
-use Rattle.key_order.proofs.KeyLaws.{key_cmp_total}
+use Rattle.key_order.proofs.Laws.{key_cmp_total}
 use Rattle.idb_keys.specs.KeyRange.{Bound, bound_at, admits, meets_lower}
 use Rattle.idb_keys.specs.declared.names.Over.{Over}
 use Rattle.idb_keys.specs.declared.names.Over.TheVariants.{Store, Index}
@@ -23,30 +23,31 @@ use Rattle.idb_schema.specs.declared.definitions.IndexInfo.{IndexInfo}
 use Rattle.sorted_table.specs.Tables.{HasKeyAt, BelongsAt, AreBelow, AreAbove}
 use Rattle.sorted_table.specs.Orders.{by_key_order}
 use Rattle.index_tables.specs.Rows.{RowTree, RowSet, IndexRows, row_cmp, no_rows, rows_of}
-use Rattle.index_rows.specs.Rows.{Records, index_rows}
-use Rattle.indexed_records.specs.Reading.{members_of}
-use Rattle.indexed_records.specs.Matches.{RowsMatch}
-use Rattle.indexed_records.specs.Shown.{shown, IsFirstFrom}
+use Rattle.index_tables.specs.RecordRows.{Records, index_rows}
+use Rattle.indexed_records.specs.Reading.{members_in}
+use Rattle.indexed_records.specs.Matches.{InStep}
+use Rattle.indexed_records.specs.Shown.{shown_by}
+use Rattle.indexed_records.specs.Ends.{IsFirstFrom}
 use Rattle.indexed_records.specs.View.{record_of, records_of}
 use Rattle.indexed_records.proofs.Matching.{nothing}
 use Rattle.indexed_records.proofs.ByKey.{Entries, InOrder, entries_of}
 
-none_shown : rows_of no_rows ≡ []
+pub none_shown : rows_of no_rows ≡ []
 none_shown = ap (λ (es : List (RowTree × Unit {0})). map (λ (e : RowTree × Unit {0}). e.0) es) (nothing (finite.entries no_rows) (sym (finite.len-entries no_rows) ∙ finite.len-empty row_cmp (Unit {0})))
 
-shown_rows : (indexes : List IndexInfo) (tables : List IndexRows) (records : Records) (place : ℕ) → RowsMatch indexes (map (λ t. t.rows) tables) records
+shown_rows : (indexes : List IndexInfo) (tables : List IndexRows) (records : Records) (spare place : ℕ) → InStep indexes tables records spare
     → unwrap_or (option_map (λ (t : IndexRows). rows_of t.rows) (slice_get tables place)) [] ≡ unwrap_or (option_map (λ index. rows_of (index_rows index records)) (slice_get indexes place)) []
-shown_rows [] [] records place h = refl
-shown_rows [] (t ∷ ts) records place h = absurd h
-shown_rows (i ∷ is) [] records zero h = sym (ap rows_of h.0 ∙ none_shown)
-shown_rows (i ∷ is) [] records (suc place) h = shown_rows is [] records place h.1
-shown_rows (i ∷ is) (t ∷ ts) records zero h = ap rows_of h.0
-shown_rows (i ∷ is) (t ∷ ts) records (suc place) h = shown_rows is ts records place h.1
+shown_rows [] [] records spare place h = refl
+shown_rows [] (t ∷ ts) records spare place h = absurd h
+shown_rows (i ∷ is) [] records spare zero h = sym (ap rows_of h.0 ∙ none_shown)
+shown_rows (i ∷ is) [] records spare (suc place) h = shown_rows is [] records spare place h.2
+shown_rows (i ∷ is) (t ∷ ts) records spare zero h = ap rows_of h.0
+shown_rows (i ∷ is) (t ∷ ts) records spare (suc place) h = shown_rows is ts records spare place h.2
 
-pub shown_is_members : (indexes : List IndexInfo) (tables : List IndexRows) (records : Records) (over : Over) → RowsMatch indexes (map (λ t. t.rows) tables) records
-    → shown records tables over ≡ members_of indexes records over
-shown_is_members indexes tables records Store h = refl
-shown_is_members indexes tables records (Index place) h = shown_rows indexes tables records place h
+pub shown_is_members : (indexes : List IndexInfo) (tables : List IndexRows) (records : Records) (spare : ℕ) (over : Over) → InStep indexes tables records spare
+    → shown_by records tables over ≡ members_in indexes records over
+shown_is_members indexes tables records spare Store h = refl
+shown_is_members indexes tables records spare (Index place) h = shown_rows indexes tables records spare place h
 
 -- ---- the keys of a store
 abbrev pub own_keys : Entries → List (KeyTree × KeyTree)
@@ -56,7 +57,7 @@ again : (es : Entries) → map (λ (e : KeyTree × _). (e.0, e.0)) (map record_o
 again [] = refl
 again (e ∷ es) = ap (λ r. (key_tree_of e.0, key_tree_of e.0) ∷ r) (again es)
 
-pub shown_keys : (es : Entries) (tables : List IndexRows) → InOrder es → shown (records_of es) tables Store ≡ own_keys es
+pub shown_keys : (es : Entries) (tables : List IndexRows) → InOrder es → shown_by (records_of es) tables Store ≡ own_keys es
 shown_keys es tables h = ap (λ (fs : List (KeyTree × _)). map (λ e. (e.0, e.0)) fs) (entries_of es h) ∙ again es
 
 module _ (k : Key) (is_open : Bool) where
@@ -96,7 +97,7 @@ module _ (k : Key) (is_open : Bool) where
   through_key opened (e ∷ es) (suc i) v at h = (λ j. fails_below e.0 h.0 j && through_key opened es i v at h.1 j)
 
   split : (es : Entries) (tables : List IndexRows) (i : ℕ) → InOrder es → i ≤ length es → list_all (λ m. not (meets_lower (Some bound) m.0)) (take i (own_keys es)) ≡ true → list_all (λ m. meets_lower (Some bound) m.0) (drop i (own_keys es)) ≡ true
-      → IsFirstFrom (Some bound) (shown (records_of es) tables Store) i
+      → IsFirstFrom (Some bound) (shown_by (records_of es) tables Store) i
   split es tables i h le before behind = subst (λ ms. IsFirstFrom (Some bound) ms i) (sym (shown_keys es tables h)) (record {
     within = omega (arith, length-map {B = KeyTree × KeyTree} es (λ e. (key_tree_of e.0, key_tree_of e.0)));
     before = AllPass-from_list_all _ _ before;
@@ -104,40 +105,49 @@ module _ (k : Key) (is_open : Bool) where
   })
 
   -- a closed bound's own key is the first
-  pub first_closed : (es : Entries) (tables : List IndexRows) (i : ℕ) → is_open ≡ false → InOrder es → HasKeyAt by_key_order es i k → IsFirstFrom (Some bound) (shown (records_of es) tables Store) i
+  pub first_closed : (es : Entries) (tables : List IndexRows) (i : ℕ) → is_open ≡ false → InOrder es → HasKeyAt by_key_order es i k → IsFirstFrom (Some bound) (shown_by (records_of es) tables Store) i
   first_closed es tables i closed h at =
       split es tables i h (omega (arith, slice_get_within es i (k, at.value) at.stands)) (before_place es i at.before) (from_key closed es i at.value at.stands (rw add-one at at.behind))
 
   -- an open bound's own key is passed over
-  pub first_open : (es : Entries) (tables : List IndexRows) (i : ℕ) → is_open ≡ true → InOrder es → HasKeyAt by_key_order es i k → IsFirstFrom (Some bound) (shown (records_of es) tables Store) (i + 1)
+  pub first_open : (es : Entries) (tables : List IndexRows) (i : ℕ) → is_open ≡ true → InOrder es → HasKeyAt by_key_order es i k → IsFirstFrom (Some bound) (shown_by (records_of es) tables Store) (i + 1)
   first_open es tables i opened h at = rw add-one (
       split es tables (suc i) h (omega (arith, slice_get_within es i (k, at.value) at.stands)) (through_key opened es i at.value at.stands at.before) (behind_place es (suc i) (rw add-one at at.behind)))
 
   -- a bound whose key has no record
-  pub first_between : (es : Entries) (tables : List IndexRows) (i : ℕ) → InOrder es → BelongsAt by_key_order es i k → IsFirstFrom (Some bound) (shown (records_of es) tables Store) i
+  pub first_between : (es : Entries) (tables : List IndexRows) (i : ℕ) → InOrder es → BelongsAt by_key_order es i k → IsFirstFrom (Some bound) (shown_by (records_of es) tables Store) i
   first_between es tables i h at = split es tables i h at.within (before_place es i at.before) (behind_place es i at.behind)
 
 -- without a bound all meet it
 pub first_of_all : (members : List (KeyTree × KeyTree)) → IsFirstFrom None members 0
 first_of_all members = record { within = omega arith; before = λ k d lt. absurd (omega arith); behind = λ k d lt. refl }
 
-pub shown_get : (es : Entries) (tables : List IndexRows) (i : ℕ) → InOrder es → option_map (λ (e : Key × Value). (key_tree_of e.0, key_tree_of e.0)) (slice_get es i) ≡ slice_get (shown (records_of es) tables Store) i
+pub shown_get : (es : Entries) (tables : List IndexRows) (i : ℕ) → InOrder es → option_map (λ (e : Key × Value). (key_tree_of e.0, key_tree_of e.0)) (slice_get es i) ≡ slice_get (shown_by (records_of es) tables Store) i
 shown_get es tables i h = sym (slice_get-map (λ (e : Key × Value). (key_tree_of e.0, key_tree_of e.0)) es i) ∙ ap (λ ms. slice_get ms i) (sym (shown_keys es tables h))
 
-pub shown_length : (es : Entries) (tables : List IndexRows) → InOrder es → length es ≡ length (shown (records_of es) tables Store)
+pub shown_length : (es : Entries) (tables : List IndexRows) → InOrder es → length es ≡ length (shown_by (records_of es) tables Store)
 shown_length es tables h = sym (ap length (shown_keys es tables h) ∙ length-map {B = KeyTree × KeyTree} es (λ e. (key_tree_of e.0, key_tree_of e.0)))
 
 -- ---- one index
-pub shown_table : (records : Records) (tables : List IndexRows) (over : Over) (i : ℕ) (t : IndexRows) → over ≡ Index i → Some t ≡ slice_get tables i → shown records tables over ≡ rows_of t.rows
-shown_table records tables over i t is at = ap (λ o. shown records tables o) is ∙ ap (λ (o : Option IndexRows). unwrap_or (option_map (λ t. rows_of t.rows) o) []) (sym at)
+pub shown_table : (records : Records) (tables : List IndexRows) (over : Over) (i : ℕ) (t : IndexRows) → over ≡ Index i → Some t ≡ slice_get tables i → shown_by records tables over ≡ rows_of t.rows
+shown_table records tables over i t is at = ap (λ o. shown_by records tables o) is ∙ ap (λ (o : Option IndexRows). unwrap_or (option_map (λ t. rows_of t.rows) o) []) (sym at)
 
-pub shown_none : (records : Records) (tables : List IndexRows) (over : Over) (i : ℕ) → over ≡ Index i → None ≡ slice_get tables i → shown records tables over ≡ []
-shown_none records tables over i is at = ap (λ o. shown records tables o) is ∙ ap (λ (o : Option IndexRows). unwrap_or (option_map (λ t. rows_of t.rows) o) []) (sym at)
+pub shown_none : (records : Records) (tables : List IndexRows) (over : Over) (i : ℕ) → over ≡ Index i → None ≡ slice_get tables i → shown_by records tables over ≡ []
+shown_none records tables over i is at = ap (λ o. shown_by records tables o) is ∙ ap (λ (o : Option IndexRows). unwrap_or (option_map (λ t. rows_of t.rows) o) []) (sym at)
 
 -- a split of what the tables show splits the members
-pub members_split : (bound : Option Bound) (indexes : List IndexInfo) (tables : List IndexRows) (records : Records) (over : Over) (place : ℕ) → RowsMatch indexes (map (λ t. t.rows) tables) records
-    → IsFirstFrom bound (shown records tables over) place → IsFirstFrom bound (members_of indexes records over) place
-members_split bound indexes tables records over place h split = subst (λ ms. IsFirstFrom bound ms place) (shown_is_members indexes tables records over h) split
+pub members_split : (bound : Option Bound) (indexes : List IndexInfo) (tables : List IndexRows) (records : Records) (spare : ℕ) (over : Over) (place : ℕ) → InStep indexes tables records spare
+    → IsFirstFrom bound (shown_by records tables over) place → IsFirstFrom bound (members_in indexes records over) place
+members_split bound indexes tables records spare over place h split = subst (λ ms. IsFirstFrom bound ms place) (shown_is_members indexes tables records spare over h) split
 
 pub row_count : (rows : RowSet) → finite.len rows ≡ length (rows_of rows)
 row_count rows = finite.len-entries rows ∙ sym (length-map {B = RowTree} (finite.entries rows) (λ e. e.0))
+
+-- without records there is nothing to split
+pub first_of_none : (es : Entries) (tables : List IndexRows) (bound : Option Bound) → InOrder es → length es ≡ 0 → IsFirstFrom bound (shown_by (records_of es) tables Store) 0
+first_of_none es tables bound h none =
+    subst (λ ms. IsFirstFrom bound ms 0) (sym (nothing (shown_by (records_of es) tables Store) (sym (shown_length es tables h) ∙ none))) (record {
+      within = omega arith;
+      before = λ k d lt. absurd (omega arith);
+      behind = λ k d lt. absurd (omega arith);
+    })

@@ -14,12 +14,12 @@ use Rattle.key_order.specs.KeyOrder.{key_cmp}
 use Rattle.sorted_table.specs.Orders.{by_key_order}
 use Rattle.idb_schema.specs.declared.definitions.IndexInfo.{IndexInfo}
 use Rattle.index_tables.specs.Rows.{RowTree, RowSet, no_rows, AreNew, with_rows}
-use Rattle.index_rows.proofs.Taken.{and_left, and_right, and_both}
-use Rattle.index_rows.specs.Rows.{rows_of_record, index_rows}
-use Rattle.index_rows.specs.Unique.{first_repeated}
+use Rattle.sorted_table.proofs.Laws.{first, second, both}
+use Rattle.index_tables.specs.RecordRows.{rows_of_record, index_rows}
+use Rattle.index_tables.specs.Unique.{first_repeated}
 use Rattle.indexed_records.specs.Causes.{tied_key}
 use Rattle.indexed_records.specs.View.{records_of}
-use Rattle.index_rows.proofs.Rows.{rows_with, rows_new}
+use Rattle.index_tables.proofs.Laws.{rows_with, rows_new}
 use Rattle.indexed_records.proofs.Matching.{rows_of_nothing}
 use Rattle.indexed_records.proofs.ByKey.{Entries, InOrder, get_of, of_none, of_put, taken_lack, taken_put}
 
@@ -30,13 +30,13 @@ below_taken : (k : Key) (es : Entries) (i : ℕ) → T (below_all by_key_order k
 below_taken k [] zero h = tt
 below_taken k [] (suc i) h = tt
 below_taken k (e ∷ es) zero h = tt
-below_taken k (e ∷ es) (suc i) h = and_both _ _ (and_left _ _ h) (below_taken k es i (and_right _ _ h))
+below_taken k (e ∷ es) (suc i) h = both _ _ (first _ _ h) (below_taken k es i (second _ _ h))
 
 taken_order : (es : Entries) (i : ℕ) → InOrder es → InOrder (take i es)
 taken_order [] zero h = tt
 taken_order [] (suc i) h = tt
 taken_order (e ∷ es) zero h = tt
-taken_order (e ∷ es) (suc i) h = and_both _ _ (below_taken e.0 es i (and_left _ _ h)) (taken_order es i (and_right _ _ h))
+taken_order (e ∷ es) (suc i) h = both _ _ (below_taken e.0 es i (first _ _ h)) (taken_order es i (second _ _ h))
 
 module _ (index : IndexInfo) (es : Entries) (i : ℕ) (k : Key) (v : Value) (h : InOrder es) (at : Some (k, v) ≡ slice_get es i) where
   not_yet : finite.get (records_of (take i es)) (key_tree_of k) ≡ None

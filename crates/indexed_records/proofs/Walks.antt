@@ -2,12 +2,15 @@
 --     Walked                        as far as a place
 --     walked_get, walked_more       the next table is as it was, and once it is changed the walk is one place on
 --     walked_all, walked_kept       at the end;  on the way, where the change may be none
-use Rattle.std.proofs.Common.{◌≡◌, ℕ, zero, suc, ◌+◌, ◌<◌, ◌≤◌, List, [], ◌∷◌, refl, sym, ap, subst, ◌∙◌, Some, length, drop, get_or, add-one, arith}
+--     FilledOn, filled_none, filled_more, filled_all        tables without rows come at the end
+--     paired_get                    two lists side by side
+use Rattle.std.proofs.Common.{◌≡◌, ℕ, zero, suc, ◌+◌, ◌-◌, ◌<◌, ◌≤◌, List, [], ◌∷◌, ◌++◌, append_assoc, length-append, refl, sym, ap, subst, ◌∙◌, Some, length, drop, get_or, add-one, arith}
 use Rattle.std.proofs.lemmas.List.{length-drop}
 use Rattle.std.proofs.lemmas.Option.{slice_get-get_or}
 use Rattle.std.specs.Prelude.{slice_get, slice_set}
-use Rattle.index_tables.specs.Rows.{IndexRows}
-use Rattle.indexed_records.specs.Walks.{AllChanged}
+use Rattle.std.specs.List.{AllByRecursion}
+use Rattle.index_tables.specs.Rows.{IndexRows, no_rows}
+use Rattle.indexed_records.specs.Walks.{AllChanged, IsFilled, paired}
 
 module _ {A : Type 0} (R : A → IndexRows → IndexRows → Type 0) where
   abbrev pub Walked : List A → List IndexRows → List IndexRows → ℕ → Type 0
@@ -91,3 +94,36 @@ next_left (y ∷ xs) (suc i) left more x h e = rw add-one (rw add-one at (next_l
 
 pub none_next : {A : Type 0} (xs : List A) (i : ℕ) (left : List A) → left ≡ drop i xs → length left ≡ 0 → length xs ≤ i
 none_next xs i left e none = omega (arith, length-drop i xs, ap length e)
+
+-- ---- tables that come at the end
+abbrev pub FilledOn : ℕ → List IndexRows → List IndexRows → Type 0
+FilledOn count old new = (fresh : List IndexRows) × (new ≡ old ++ fresh) × (length fresh ≤ count - length old) × AllByRecursion (λ t. (t.rows ≡ no_rows) × (t.spare ≡ 0)) fresh
+
+pub filled_none : (count : ℕ) (old : List IndexRows) → FilledOn count old old
+filled_none count old = ([], append_none old, omega arith, tt)
+  where
+    append_none : {A : Type 0} (xs : List A) → xs ≡ xs ++ []
+    append_none [] = refl
+    append_none (x ∷ xs) = ap (λ ys. x ∷ ys) (append_none xs)
+
+one_more_empty : (ts : List IndexRows) (t : IndexRows) → AllByRecursion (λ t. (t.rows ≡ no_rows) × (t.spare ≡ 0)) ts → t.rows ≡ no_rows → t.spare ≡ 0 → AllByRecursion (λ t. (t.rows ≡ no_rows) × (t.spare ≡ 0)) (ts ++ t ∷ [])
+one_more_empty [] t h rows spare = ((rows, spare), tt)
+one_more_empty (u ∷ ts) t h rows spare = (h.0, one_more_empty ts t h.1 rows spare)
+
+pub filled_more : (count : ℕ) (old new : List IndexRows) (t : IndexRows) → FilledOn count old new → length new < count → t.rows ≡ no_rows → t.spare ≡ 0 → FilledOn count old (new ++ t ∷ [])
+filled_more count old new t h lt rows spare = (
+  h.0 ++ t ∷ [],
+  ap (λ ts. ts ++ t ∷ []) h.1 ∙ append_assoc old h.0 (t ∷ []),
+  omega (arith, h.2, lt, ap length h.1, length-append old h.0, length-append h.0 (t ∷ [])),
+  one_more_empty h.0 t h.3 rows spare,
+)
+
+pub filled_all : (count : ℕ) (old new : List IndexRows) → FilledOn count old new → count ≤ length new → IsFilled count old new
+filled_all count old new h le = (h.0, h.1, (omega (arith, h.2, le, ap length h.1, length-append old h.0), h.3))
+
+-- ---- two lists side by side
+pub paired_get : {A B : Type 0} (xs : List A) (ys : List B) (i : ℕ) (x : A) (y : B) → slice_get xs i ≡ Some x → slice_get ys i ≡ Some y → slice_get (paired xs ys) i ≡ Some (x, y)
+paired_get [] ys i x y a b = cc
+paired_get (u ∷ xs) [] i x y a b = cc
+paired_get (u ∷ xs) (v ∷ ys) zero x y a b = let one : u ≡ x = cc in let two : v ≡ y = cc in λ j. Some (one j, two j)
+paired_get (u ∷ xs) (v ∷ ys) (suc i) x y a b = paired_get xs ys i x y a b

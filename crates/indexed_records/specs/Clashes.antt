@@ -9,7 +9,7 @@ use Rattle.clone_values.specs.KeyTree.{KeyTree}
 use Rattle.key_order.specs.KeyOrder.{key_cmp}
 use Rattle.idb_schema.specs.declared.definitions.IndexInfo.{IndexInfo}
 use Rattle.index_tables.specs.Rows.{RowTree, RowSet, IndexRows, rows_of}
-use Rattle.index_rows.specs.Unique.{first_repeated}
+use Rattle.index_tables.specs.Unique.{first_repeated}
 
 -- this row has the index key, and another primary key
 abbrev pub is_other : KeyTree → KeyTree → RowTree → Bool

@@ -1,4 +1,3 @@
-pub mod Reading
 pub mod Contents
 pub mod View
 pub mod Matches
@@ -6,4 +5,6 @@ pub mod Shown
 pub mod Walks
 pub mod Clashes
 pub mod Causes
-pub mod Dropping
+pub mod Taken
+pub mod Reading
+pub mod Ends

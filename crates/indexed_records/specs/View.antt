@@ -1,5 +1,5 @@
--- What contracts see of a table of records and of the tables of rows.
---     record_of             the key and the value of an entry;  record_seen: the same of a lent one;  keys_seen: two lent keys
+-- What contracts see of a table of records.
+--     record_of             the key and the value of an entry;  record_seen: the same of a lent one
 --     records_of            the records of a table's entries, which stand in order
 use denote.Ref.{Bor}
 use Rattle.std.specs.Prelude.{List, map}
@@ -9,7 +9,7 @@ use Rattle.clone_values.specs.declared.value_types.Value.{Value}
 use Rattle.clone_values.specs.Tree.{Tree}
 use Rattle.clone_values.specs.KeyTree.{KeyTree}
 use Rattle.clone_values.specs.View.{key_tree_of, tree_of}
-use Rattle.index_rows.specs.Rows.{Records}
+use Rattle.index_tables.specs.RecordRows.{Records}
 
 -- the key and the value
 abbrev pub record_of : Key × Value → KeyTree × Tree
@@ -17,9 +17,6 @@ record_of e = (key_tree_of e.0, tree_of e.1)
 
 abbrev pub record_seen : Bor Key × Bor Value → KeyTree × Tree
 record_seen e = (key_tree_of e.0.now, tree_of e.1.now)
-
-abbrev pub keys_seen : Bor Key × Bor Key → KeyTree × KeyTree
-keys_seen e = (key_tree_of e.0.now, key_tree_of e.1.now)
 
 -- the records of a table's entries
 abbrev pub records_of : List (Key × Value) → Records

@@ -3,31 +3,28 @@ ghost use Rattle.std.specs.Prelude.{◌≡◌, ◌<◌, false, Some, None, slice
 ghost use Rattle.std.specs.Ordering.{is_eq};
 ghost use Rattle.key_order.specs.KeyOrder.{key_cmp};
 ghost use Rattle.clone_values.specs.View.{key_tree_of};
-ghost use Rattle.idb_keys.specs.KeyRange.{bound_at};
-ghost use Rattle.index_tables.specs.Rows.{rows_of, first_row};
-ghost use Rattle.index_rows.specs.Unique.{first_repeated};
+ghost use Rattle.index_tables.specs.Rows.{rows_of};
+ghost use Rattle.index_tables.specs.Unique.{first_repeated};
 ghost use Rattle.indexed_records.specs.Clashes.{has_other, clash_in, clash_at, clash_any, AreUnique};
 
-use crate::growing::list_at;
 use crate::reading::table_at;
+use crate::row_lists::RowLists;
 use clone_values::Key;
 use idb_schema::IndexInfos;
 use index_tables::{IndexTable, Rows, Tables};
 use key_order::compare;
-use sorted_table::Steps;
 use std::cmp::Ordering;
-use std::marker::Brand;
-use std::sync::ledger::{Blank, Ledger};
 
 /// Whether some index has another record's row with the key of one of these rows.
 pub(crate) fn clashes_any<T: Tables>(
     indexes: &IndexInfos,
     tables: &Vec<IndexTable<T>>,
-    rows: &Vec<Rows>,
+    rows: &RowLists,
     primary: &Key,
 ) -> bool
     requires { AreUnique indexes.now tables.now.items }
-    ensures { result ≡ clash_any indexes.now tables.now.items rows.now.items (key_tree_of primary.now) }
+    ensures { result
+        ≡ clash_any indexes.now tables.now.items rows.now (key_tree_of primary.now) }
 {
     for place in 0..rows.len() {
         if clashes_at(indexes, tables, rows, place, primary) {
@@ -41,12 +38,13 @@ pub(crate) fn clashes_any<T: Tables>(
 fn clashes_at<T: Tables>(
     indexes: &IndexInfos,
     tables: &Vec<IndexTable<T>>,
-    rows: &Vec<Rows>,
+    rows: &RowLists,
     place: usize,
     primary: &Key,
 ) -> bool
     requires { AreUnique indexes.now tables.now.items }
-    ensures { result ≡ clash_at (slice_get indexes.now place) (slice_get tables.now.items place) (slice_get rows.now.items place) (key_tree_of primary.now) }
+    ensures { result ≡ clash_at (slice_get indexes.now place) (slice_get tables.now.items place)
+        (slice_get rows.now place) (key_tree_of primary.now) }
 {
     let Some(index) = indexes.at(place) else {
         return false;
@@ -54,7 +52,7 @@ fn clashes_at<T: Tables>(
     let Some(table) = table_at(tables, place) else {
         return false;
     };
-    let Some(list) = list_at(rows, place) else {
+    let Some(list) = rows.at(place) else {
         return false;
     };
     if !index.unique {
@@ -83,7 +81,7 @@ fn has_another<T: Tables>(table: &IndexTable<T>, key: &Key, primary: &Key) -> bo
     requires { first_repeated (rows_of table.now.rows) ≡ None }
     ensures { result ≡ has_other table.now.rows (key_tree_of key.now) (key_tree_of primary.now) }
 {
-    match table.row(first_of_key::<T, Brand>(table, key, Blank::new(1))) {
+    match table.row(table.find_first(Some(key), false)) {
         Some(row) => ties(key, &row.key) && !ties(primary, &row.primary),
         None => false,
     }
@@ -96,14 +94,4 @@ pub(crate) fn ties(one: &Key, other: &Key) -> bool
         Ordering::Equal => true,
         _ => false,
     }
-}
-
-fn first_of_key<T: Tables, L: Ledger>(table: &IndexTable<T>, key: &Key, blank: Blank) -> usize
-    requires name { blank.name ≡ L.name }
-    requires parts { blank.parts ≡ L.parts }
-    requires some { 0 < blank.parts }
-    ensures { result ≡ first_row (Some (bound_at (key_tree_of key.now) false)) table.now.rows }
-{
-    let mut steps: Steps<L> = Steps::new(blank);
-    table.first_from(Some(key), false, &mut steps)
 }

@@ -1,8 +1,8 @@
-// Copies of the tables, and the tables that are missing.
-ghost use Rattle.std.specs.Prelude.{◌≡◌, ◌-◌, ◌≤◌, [], ◌++◌, map, length, IfOk, OnOk, OnErr};
-ghost use Rattle.indexed_records.specs.Walks.{AreEmpty, IsFilled};
+// Copies of the tables.
+ghost use Rattle.std.specs.Prelude.{◌≡◌, [], map, IfOk, OnOk};
 
-use clone_values::{Key, NoMemory, Value, copy_value};
+use clone_values::{Key, Value, copy_value};
+use idb_base::NoMemory;
 use index_tables::{IndexTable, Tables};
 use sorted_table::OrderedTable;
 use std::alloc::Global;
@@ -44,37 +44,12 @@ pub(crate) fn copied_tables<T: Tables>(
     alloc: Global,
     tables: &Vec<IndexTable<T>>,
 ) -> Result<Vec<IndexTable<T>>, NoMemory>
-    ensures { IfOk result (λ copies. map (λ t. t.rows) copies.items ≡ map (λ t. t.rows) tables.now.items) }
+    ensures { IfOk result (λ copies. map (λ t. t.rows) copies.items
+        ≡ map (λ t. t.rows) tables.now.items) }
 {
     let mut copies = Vec::new(alloc);
     for table in tables {
         copies.push(table.copy(alloc)?)?;
     }
     Ok(copies)
-}
-
-/// Tables without rows.
-fn fresh_tables<T: Tables>(alloc: Global, count: usize) -> Result<Vec<IndexTable<T>>, NoMemory>
-    ensures { IfOk result (λ tables. AreEmpty count tables.items) }
-{
-    let mut tables = Vec::new(alloc);
-    while tables.len() < count {
-        tables.push(IndexTable::new(alloc))?;
-    }
-    Ok(tables)
-}
-
-/// Makes the tables that are missing to this number, all or none.
-pub(crate) fn fill_up<T: Tables>(
-    alloc: Global,
-    tables: &mut Vec<IndexTable<T>>,
-    count: usize,
-) -> Result<(), NoMemory>
-    requires { length tables.old.items ≤ count }
-    ensures ok { OnOk result (IsFilled count tables.old.items tables.new.items) }
-    ensures err { OnErr result (tables.new.items ≡ tables.old.items) }
-{
-    let mut fresh = fresh_tables(alloc, count - tables.len())?;
-    tables.append(&mut fresh)?;
-    Ok(())
 }

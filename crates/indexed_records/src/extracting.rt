@@ -2,10 +2,12 @@
 ghost use Rattle.std.specs.Prelude.{◌≡◌, [], ◌∷◌, map, IfOk};
 ghost use Rattle.clone_values.specs.View.{key_tree_of, tree_of};
 ghost use Rattle.index_tables.specs.View.{row_of};
-ghost use Rattle.index_rows.specs.Rows.{rows_of_record};
+ghost use Rattle.index_tables.specs.RecordRows.{rows_of_record};
 ghost use Rattle.indexed_records.specs.Contents.{rows_in_indexes};
 
-use clone_values::{Key, Keys, NoMemory, Value};
+use crate::row_lists::RowLists;
+use clone_values::{Key, Keys, Value};
+use idb_base::NoMemory;
 use idb_schema::{IndexInfo, IndexInfos};
 use index_tables::{Row, Rows};
 use key_paths::{Extracted, extract};
@@ -17,8 +19,21 @@ pub(crate) fn rows_in_each(
     indexes: &IndexInfos,
     key: &Key,
     value: &Value,
+) -> Result<RowLists, NoMemory>
+    ensures { IfOk result (λ rows. rows
+        ≡ rows_in_indexes indexes.now (key_tree_of key.now) (tree_of value.now)) }
+{
+    RowLists::of(lists_in_each(alloc, indexes, key, value)?)
+}
+
+fn lists_in_each(
+    alloc: Global,
+    indexes: &IndexInfos,
+    key: &Key,
+    value: &Value,
 ) -> Result<Vec<Rows>, NoMemory>
-    ensures { IfOk result (λ rows. rows.items ≡ rows_in_indexes indexes.now (key_tree_of key.now) (tree_of value.now)) }
+    ensures { IfOk result (λ rows. rows.items
+        ≡ rows_in_indexes indexes.now (key_tree_of key.now) (tree_of value.now)) }
 {
     let mut lists = Vec::new(alloc);
     for place in 0..indexes.len() {
@@ -36,7 +51,8 @@ pub(crate) fn rows_in_one(
     key: &Key,
     value: &Value,
 ) -> Result<Rows, NoMemory>
-    ensures { IfOk result (λ rows. rows ≡ rows_of_record index.now (key_tree_of key.now) (tree_of value.now)) }
+    ensures { IfOk result (λ rows. rows
+        ≡ rows_of_record index.now (key_tree_of key.now) (tree_of value.now)) }
 {
     match extract(alloc, &index.path, index.multi, value)? {
         Extracted::One(one) => row_of_key(alloc, one, key),

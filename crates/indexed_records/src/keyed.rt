@@ -1,23 +1,48 @@
-// One record put into a table of records, and one taken out.
-ghost use Rattle.std.specs.Prelude.{◌≡◌, ◌+◌, ◌<◌, ◌≤◌, None};
+// One record put into a table of records, one replaced, and one taken out.
+ghost use Rattle.std.specs.Prelude.{◌≡◌, ◌+◌, ◌<◌, ◌≤◌, Some, slice_get};
 ghost use Rattle.std.specs.FinMap as finite;
+ghost use Rattle.clone_values.specs.Tree.{Tree};
+ghost use Rattle.clone_values.specs.KeyTree.{KeyTree};
 ghost use Rattle.clone_values.specs.View.{key_tree_of, tree_of};
-ghost use Rattle.indexed_records.specs.Contents.{IsRecordAt};
+ghost use Rattle.indexed_records.specs.Contents.{IsRecordAt, IsGapOf};
 ghost use Rattle.indexed_records.specs.View.{records_of};
 
 use clone_values::{Key, Value};
 use sorted_table::OrderedTable;
 
 /// Puts a new record in its place.
-pub(crate) fn put_record<R: OrderedTable<Key, Value>>(records: &mut R, key: Key, value: Value)
+pub(crate) fn put_record<R: OrderedTable<Key, Value>>(
+    records: &mut R,
+    place: usize,
+    key: Key,
+    value: Value,
+)
     requires room { 0 < R.spare records.old }
-    requires absent { finite.get (records_of (R.entries records.old)) (key_tree_of key) ≡ None }
-    ensures records { records_of (R.entries records.new) ≡ finite.insert (records_of (R.entries records.old)) (key_tree_of key) (tree_of value) }
+    requires gap { IsGapOf (records_of (R.entries records.old)) place (key_tree_of key) }
+    ensures records { records_of (R.entries records.new)
+        ≡ finite.insert (records_of (R.entries records.old)) (key_tree_of key) (tree_of value) }
     ensures spare { R.spare records.old ≤ R.spare records.new + 1 }
 {
-    // The table says that its keys rise.
-    records.len();
-    records.insert(key, value);
+    records.insert_at(place, key, value);
+}
+
+/// Puts another value into the record at this place, and gives the one that it had.
+pub(crate) fn replace_record<R: OrderedTable<Key, Value>>(
+    records: &mut R,
+    place: usize,
+    value: Value,
+) -> Value
+    requires { place < finite.len (records_of (R.entries records.old)) }
+    ensures given { (k : KeyTree) (v : Tree)
+        → slice_get (finite.entries (records_of (R.entries records.old))) place ≡ Some (k, v)
+        → tree_of result ≡ v }
+    ensures records { (k : KeyTree) (v : Tree)
+        → slice_get (finite.entries (records_of (R.entries records.old))) place ≡ Some (k, v)
+        → records_of (R.entries records.new)
+        ≡ finite.insert (records_of (R.entries records.old)) k (tree_of value) }
+    ensures spare { R.spare records.new ≡ R.spare records.old }
+{
+    records.replace(place, value)
 }
 
 /// Takes the record at this place out.
@@ -26,11 +51,11 @@ pub(crate) fn take_record<R: OrderedTable<Key, Value>>(
     place: usize,
 ) -> (Key, Value)
     requires { place < finite.len (records_of (R.entries records.old)) }
-    ensures taken { IsRecordAt (records_of (R.entries records.old)) place (key_tree_of result.0) (tree_of result.1) }
-    ensures left { records_of (R.entries records.new) ≡ finite.remove (records_of (R.entries records.old)) (key_tree_of result.0) }
+    ensures taken { IsRecordAt (records_of (R.entries records.old)) place
+        (key_tree_of result.0) (tree_of result.1) }
+    ensures left { records_of (R.entries records.new)
+        ≡ finite.remove (records_of (R.entries records.old)) (key_tree_of result.0) }
     ensures spare { R.spare records.old ≤ R.spare records.new }
 {
-    // The table says that its keys rise.
-    records.len();
     records.remove(place)
 }

@@ -8,16 +8,20 @@ mod building;
 mod clashing;
 mod copying;
 mod dropping;
+mod emptying;
 mod extracting;
 mod growing;
 mod index_error;
 mod keyed;
 mod reading;
 mod records;
+mod row_lists;
 
 pub use dropping::Dropped;
+pub use emptying::Emptied;
 pub use index_error::IndexError;
 pub use records::IndexedRecords;
+pub use row_lists::{RowLists, plus};
 
 #[cfg(test)]
 mod tests;

@@ -1,46 +1,76 @@
 // What the table of records and the tables of rows show.
-ghost use Rattle.std.specs.Prelude.{◌≡◌, ◌<◌, [], length, slice_get, option_map, IfOk, IfErr};
+ghost use Rattle.std.specs.Prelude.{◌≡◌, [], length, slice_get, option_map, IfOk, IfErr};
 ghost use Rattle.std.specs.Option.{option_copied};
-ghost use Rattle.std.specs.FinMap.{empty};
+ghost use Rattle.std.specs.FinMap as finite;
+ghost use Rattle.clone_values.specs.Tree.{Tree};
+ghost use Rattle.clone_values.specs.View.{key_tree_of};
 ghost use Rattle.idb_keys.specs.declared.names.Over.TheVariants.{Store, Index};
-ghost use Rattle.sorted_table.specs.Tables.{HasKeyAt, BelongsAt};
-ghost use Rattle.sorted_table.specs.Orders.{by_key_order};
 ghost use Rattle.index_tables.specs.Rows.{rows_of};
 ghost use Rattle.index_tables.specs.View.{bound_seen};
-ghost use Rattle.indexed_records.specs.Shown.{shown, IsFirstFrom};
-ghost use Rattle.indexed_records.specs.View.{records_of, keys_seen};
+ghost use Rattle.indexed_records.specs.Contents.{IsRecordAt, IsGapOf};
+ghost use Rattle.indexed_records.specs.Ends.{IsFirstFrom};
+ghost use Rattle.indexed_records.specs.Reading.{keys_seen, value_seen};
+ghost use Rattle.indexed_records.specs.Shown.{shown_by};
+ghost use Rattle.indexed_records.specs.View.{record_seen, records_of};
 
 use clone_values::{Key, Value};
 use idb_keys::Over;
 use index_tables::{IndexTable, Tables};
-use sorted_table::{OrderedTable, Steps};
-use std::marker::Brand;
-use std::sync::ledger::{Blank, Ledger};
+use sorted_table::{OrderedTable, find_place};
 
-/// The place of the record of this key, or the place where it would stand; its comparisons are not told.
-pub(crate) fn place_of_key<R: OrderedTable<Key, Value>>(
-    records: &R,
-    key: &Key,
-) -> Result<usize, usize>
-    ensures found { IfOk result (λ place. HasKeyAt by_key_order (R.entries records.now) place key.now) }
-    ensures absent { IfErr result (λ place. BelongsAt by_key_order (R.entries records.now) place key.now) }
+/// The place of the record of this key, or the place where it would stand.
+pub(crate) fn record_in<R: OrderedTable<Key, Value>>(records: &R, key: &Key) -> Result<usize, usize>
+    ensures found { IfOk result (λ place. (value : Tree)
+        × IsRecordAt (records_of (R.entries records.now)) place (key_tree_of key.now) value) }
+    ensures absent { IfErr result (λ place. IsGapOf (records_of (R.entries records.now)) place
+        (key_tree_of key.now)) }
 {
-    place_by::<R, Brand>(records, key, Blank::new(1))
+    match find_place(records, key) {
+        Ok(place) => Ok(place),
+        Err(place) => Err(place),
+    }
 }
 
-fn place_by<R: OrderedTable<Key, Value>, L: Ledger>(
-    records: &R,
-    key: &Key,
-    blank: Blank,
-) -> Result<usize, usize>
-    requires name { blank.name ≡ L.name }
-    requires parts { blank.parts ≡ L.parts }
-    requires some { 0 < blank.parts }
-    ensures found { IfOk result (λ place. HasKeyAt by_key_order (R.entries records.now) place key.now) }
-    ensures absent { IfErr result (λ place. BelongsAt by_key_order (R.entries records.now) place key.now) }
+/// How many records there are.
+pub(crate) fn count_records<R: OrderedTable<Key, Value>>(records: &R) -> usize
+    ensures { result ≡ finite.len (records_of (R.entries records.now)) }
 {
-    let mut steps: Steps<L> = Steps::new(blank);
-    records.place_of(key, &mut steps)
+    records.len()
+}
+
+/// The record at this place.
+pub(crate) fn record_nth<R: OrderedTable<Key, Value>>(
+    records: &R,
+    place: usize,
+) -> Option<(&Key, &Value)>
+    ensures { option_map record_seen result
+        ≡ slice_get (finite.entries (records_of (R.entries records.now))) place }
+{
+    records.nth(place)
+}
+
+/// How many members the store itself shows.
+fn records_shown<R: OrderedTable<Key, Value>>(records: &R) -> usize
+    ensures { result ≡ length (shown_by (records_of (R.entries records.now)) [] Store) }
+{
+    records.len()
+}
+
+/// The value of the record of this key.
+pub(crate) fn value_found<'a, R: OrderedTable<Key, Value>>(
+    records: &'a R,
+    key: &Key,
+) -> Option<&'a Value>
+    ensures { option_map value_seen result
+        ≡ finite.get (records_of (R.entries records.now)) (key_tree_of key.now) }
+{
+    match find_place(records, key) {
+        Ok(place) => match records.nth(place) {
+            Some((_, value)) => Some(value),
+            None => unreachable!(),
+        },
+        Err(_) => None,
+    }
 }
 
 /// The table of the index at this place; `None` where it has none yet.
@@ -59,10 +89,11 @@ pub(crate) fn shown_count<T: Tables>(
     tables: &Vec<IndexTable<T>>,
     over: Over,
 ) -> usize
-    ensures { result ≡ length (shown (records_of (T.Records.entries records.now)) tables.now.items over) }
+    ensures { result
+        ≡ length (shown_by (records_of (T.Records.entries records.now)) tables.now.items over) }
 {
     match over {
-        Over::Store => records.len(),
+        Over::Store => records_shown(records),
         Over::Index(index) => match table_at(tables, index) {
             Some(table) => table.len(),
             None => 0,
@@ -72,10 +103,9 @@ pub(crate) fn shown_count<T: Tables>(
 
 /// The key of the record at this place, as both of its keys.
 fn record_shown<R: OrderedTable<Key, Value>>(records: &R, place: usize) -> Option<(&Key, &Key)>
-    ensures { option_map keys_seen result ≡ slice_get (shown (records_of (R.entries records.now)) [] Store) place }
+    ensures { option_map keys_seen result
+        ≡ slice_get (shown_by (records_of (R.entries records.now)) [] Store) place }
 {
-    // The table says that its keys rise.
-    records.len();
     match records.nth(place) {
         Some((key, _)) => Some((key, key)),
         None => None,
@@ -99,7 +129,8 @@ pub(crate) fn shown_at<'a, T: Tables>(
     over: Over,
     place: usize,
 ) -> Option<(&'a Key, &'a Key)>
-    ensures { option_map keys_seen result ≡ slice_get (shown (records_of (T.Records.entries records.now)) tables.now.items over) place }
+    ensures { option_map keys_seen result
+        ≡ slice_get (shown_by (records_of (T.Records.entries records.now)) tables.now.items over) place }
 {
     match over {
         Over::Store => record_shown(records, place),
@@ -116,14 +147,16 @@ pub(crate) fn first_record<R: OrderedTable<Key, Value>>(
     lower: Option<&Key>,
     lower_open: bool,
 ) -> usize
-    ensures { IsFirstFrom (bound_seen lower.entry lower_open) (shown (records_of (R.entries records.now)) [] Store) result }
+    ensures { IsFirstFrom (bound_seen lower.entry lower_open)
+        (shown_by (records_of (R.entries records.now)) [] Store) result }
 {
     let Some(key) = lower else {
         return 0;
     };
-    // The table says that its keys rise, and how many there are.
-    records.len();
-    match place_of_key(records, key) {
+    if records.len() == 0 {
+        return 0;
+    }
+    match find_place(records, key) {
         Ok(place) => { if lower_open { place + 1 } else { place } }
         Err(place) => place,
     }
@@ -136,25 +169,11 @@ pub(crate) fn first_row<T: Tables>(
     lower: Option<&Key>,
     lower_open: bool,
 ) -> usize
-    ensures { IsFirstFrom (bound_seen lower.entry lower_open) (shown empty tables.now.items (Index index)) result }
+    ensures { IsFirstFrom (bound_seen lower.entry lower_open)
+        (shown_by finite.empty tables.now.items (Index index)) result }
 {
     match table_at(tables, index) {
-        Some(table) => first_row_by::<T, Brand>(table, lower, lower_open, Blank::new(1)),
+        Some(table) => table.find_first(lower, lower_open),
         None => 0,
     }
-}
-
-fn first_row_by<T: Tables, L: Ledger>(
-    table: &IndexTable<T>,
-    lower: Option<&Key>,
-    lower_open: bool,
-    blank: Blank,
-) -> usize
-    requires name { blank.name ≡ L.name }
-    requires parts { blank.parts ≡ L.parts }
-    requires some { 0 < blank.parts }
-    ensures { IsFirstFrom (bound_seen lower.entry lower_open) (rows_of table.now.rows) result }
-{
-    let mut steps: Steps<L> = Steps::new(blank);
-    table.first_from(lower, lower_open, &mut steps)
 }

@@ -1,19 +1,20 @@
 // Records and the tables of their rows.
-ghost use Rattle.std.specs.Prelude.{◌≡◌, ◌≤◌, not, [], length, take, drop, slice_get, option_map, IfSome, IfNone};
-ghost use Rattle.std.specs.List.{AllPass};
+ghost use Rattle.std.specs.Prelude.{◌≡◌, ◌≤◌, not, [], length, take, drop, slice_get, option_map, IfOk, IfErr};
 ghost use Rattle.std.specs.FinMap as finite;
 ghost use Rattle.clone_values.specs.Tree.{Tree};
 ghost use Rattle.clone_values.specs.View.{key_tree_of};
-ghost use Rattle.idb_keys.specs.KeyRange.{meets_lower};
 ghost use Rattle.index_tables.specs.View.{bound_seen};
-ghost use Rattle.indexed_records.specs.Contents.{IsRecordAt, StandsIn};
-ghost use Rattle.indexed_records.specs.Reading.{members_of};
-ghost use Rattle.indexed_records.specs.View.{record_seen, keys_seen};
+ghost use Rattle.indexed_records.specs.Contents.{IsRecordAt, IsGapOf};
+ghost use Rattle.indexed_records.specs.Ends.{IsFirstFrom};
+ghost use Rattle.indexed_records.specs.Reading.{members_in, keys_seen, value_seen};
+ghost use Rattle.indexed_records.specs.View.{record_seen};
 
 mod indexing;
 mod writing;
 
-use crate::reading::{first_record, first_row, place_of_key, shown_at, shown_count};
+use crate::reading::{
+    count_records, first_record, first_row, record_in, record_nth, shown_at, shown_count, value_found,
+};
 use clone_values::{Key, Value};
 use idb_keys::Over;
 use idb_schema::StoreInfo;
@@ -22,18 +23,18 @@ use sorted_table::OrderedTable;
 use std::alloc::Global;
 use std::marker::Model;
 
-/// The records of an object store and the rows of its indexes. Contracts see the definition of the store and the records by
-/// key, and how many more of each can be added without memory.
+/// The records of an object store and the rows of its indexes. Contracts see the definition of the store, the records by
+/// key, and how many more records, and rows of each index, can be added without memory.
 #[derive(Drop)]
 pub struct IndexedRecords<T: Tables> {
     alloc: Global,
     info: StoreInfo,
     records: T::Records,
     tables: Vec<IndexTable<T>>,
+    row_spare: usize,
 }
 
 impl<T: Tables> Model for IndexedRecords<T> {
-    ghost use Rattle.std.specs.Prelude.{map};
     ghost use Rattle.std.specs.Coded.{codes};
     ghost use Rattle.indexed_records.specs.Contents.{Indexed, records_code};
 
@@ -42,31 +43,33 @@ impl<T: Tables> Model for IndexedRecords<T> {
     ghost coded = { Prim.hlevel (codes, records_code) };
 
     ghost use Rattle.indexed_records.specs.View.{records_of};
-    ghost use Rattle.indexed_records.specs.Matches.{RowsMatch};
+    ghost use Rattle.indexed_records.specs.Matches.{InStep};
 
     ghost view = { λ a. record {
       info = a.info;
       records = records_of (T.Records.entries a.records);
       record_spare = T.Records.spare a.records;
-      row_spares = map (λ t. t.spare) a.tables.items;
+      row_spare = a.row_spare;
     } };
 
-    ghost invariant = { λ a. RowsMatch a.info.indexes (map (λ t. t.rows) a.tables.items) (records_of (T.Records.entries a.records)) };
+    ghost invariant = { λ a. InStep a.info.indexes a.tables.items
+      (records_of (T.Records.entries a.records)) a.row_spare };
 }
 
 impl<T: Tables> IndexedRecords<T> {
-    /// A store without records. It takes no memory: the tables of its indexes are made later, by `complete`.
+    /// A store without records. It takes no memory: the tables of its indexes are made where they are wanted.
     pub fn new(alloc: Global, info: StoreInfo) -> Self
         ensures info { result.info ≡ info }
         ensures records { result.records ≡ finite.empty }
         ensures spare { result.record_spare ≡ 0 }
-        ensures spares { result.row_spares ≡ [] }
+        ensures row_spare { result.row_spare ≡ 0 }
     {
         IndexedRecords {
             alloc,
             info,
             records: T::records(alloc),
             tables: Vec::new(alloc),
+            row_spare: 0,
         }
     }
 
@@ -81,55 +84,53 @@ impl<T: Tables> IndexedRecords<T> {
     pub fn len(&self) -> usize
         ensures { result ≡ finite.len self.now.records }
     {
-        self.records.len()
+        count_records(&self.records)
     }
 
     /// The record at this place of the order of keys, counted from 0; `None` past the end.
     pub fn record_at(&self, place: usize) -> Option<(&Key, &Value)>
         ensures { option_map record_seen result ≡ slice_get (finite.entries self.now.records) place }
     {
-        // The table says that its keys rise.
-        self.records.len();
-        self.records.nth(place)
+        record_nth(&self.records, place)
     }
 
-    /// How many records the store has, or how many rows this index.
-    pub fn count_of(&self, over: Over) -> usize
-        requires { StandsIn self.now.info.indexes over }
-        ensures { result ≡ length (members_of self.now.info.indexes self.now.records over) }
+    /// How many records the store has, or how many rows this index; an index that isn't there has none.
+    pub fn row_count(&self, over: Over) -> usize
+        ensures { result ≡ length (members_in self.now.info.indexes self.now.records over) }
     {
         shown_count(&self.records, &self.tables, over)
     }
 
     /// The key and the primary key of the record or row at this place, counted from 0; `None` past the end.
     pub fn row(&self, over: Over, place: usize) -> Option<(&Key, &Key)>
-        requires { StandsIn self.now.info.indexes over }
-        ensures { option_map keys_seen result ≡ slice_get (members_of self.now.info.indexes self.now.records over) place }
+        ensures { option_map keys_seen result
+            ≡ slice_get (members_in self.now.info.indexes self.now.records over) place }
     {
         shown_at(&self.records, &self.tables, over, place)
     }
 
-    /// The place of the record of this key, found by halving. It takes no memory.
-    pub fn find(&self, key: &Key) -> Option<usize>
-        ensures found { IfSome result (λ place. (value : Tree) × IsRecordAt self.now.records place (key_tree_of key.now) value) }
-        ensures absent { IfNone result (finite.get self.now.records (key_tree_of key.now) ≡ None) }
+    /// The place of the record of this key, or the place where it would stand, found by halving. It takes no memory.
+    pub fn find(&self, key: &Key) -> Result<usize, usize>
+        ensures found { IfOk result (λ place. (value : Tree)
+            × IsRecordAt self.now.records place (key_tree_of key.now) value) }
+        ensures absent { IfErr result (λ place. IsGapOf self.now.records place (key_tree_of key.now)) }
     {
-        // The table says that its keys rise.
-        self.records.len();
-        match place_of_key(&self.records, key) {
-            Ok(place) => Some(place),
-            Err(_) => None,
-        }
+        record_in(&self.records, key)
+    }
+
+    /// The value of the record of this key; `None` where there is none. It takes no memory.
+    pub fn value_of(&self, key: &Key) -> Option<&Value>
+        ensures { option_map value_seen result ≡ finite.get self.now.records (key_tree_of key.now) }
+    {
+        value_found(&self.records, key)
     }
 
     /// The place of the first record or row whose key meets the lower bound, found by halving; where none does, the number
-    /// of them all; 0 where there is no bound. The bound is open if its own key is left out (Indexed Database API 3.0,
-    /// 2.9). It takes no memory.
+    /// of them all; 0 where there is no bound. The bound is open if its own key is left out ("key range"). It takes no
+    /// memory.
     pub fn first_from(&self, over: Over, lower: Option<&Key>, lower_open: bool) -> usize
-        requires { StandsIn self.now.info.indexes over }
-        ensures within { result ≤ length (members_of self.now.info.indexes self.now.records over) }
-        ensures before { AllPass (λ m. not (meets_lower (bound_seen lower.entry lower_open) m.0)) (take result (members_of self.now.info.indexes self.now.records over)) }
-        ensures behind { AllPass (λ m. meets_lower (bound_seen lower.entry lower_open) m.0) (drop result (members_of self.now.info.indexes self.now.records over)) }
+        ensures { IsFirstFrom (bound_seen lower.entry lower_open)
+            (members_in self.now.info.indexes self.now.records over) result }
     {
         match over {
             Over::Store => first_record(&self.records, lower, lower_open),

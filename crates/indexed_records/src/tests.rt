@@ -1,58 +1,43 @@
-ghost use Rattle.std.specs.Prelude.{◌≤◌, length, IsTrue};
-ghost use Rattle.std.specs.List.{All};
-
 use super::*;
-use clone_values::{Key, NoMemory, PathSpec, Props, Text, Value};
+use clone_values::{Key, PathSpec, Text, Value};
+use idb_base::NoMemory;
 use idb_keys::Over;
 use idb_schema::{IndexInfo, IndexInfos, StoreInfo};
-use index_tables::{Row, Rows, Tables};
+use index_tables::FlatTables;
 use path_grammar::KeyPath;
-use sorted_table::{FlatTable, OrderedTable};
 use std::alloc::Global;
-use std::process::Abort;
 use std::test::Fail;
 
-/// Tables of one run each.
-struct Flat;
+type Store = IndexedRecords<FlatTables>;
 
-impl Tables for Flat {
-    type Records = FlatTable<Key, Value>;
-
-    type Rows = FlatTable<Row, ()>;
-
-    fn records(alloc: Global) -> FlatTable<Key, Value> {
-        FlatTable::new(alloc)
-    }
-
-    fn rows(alloc: Global) -> FlatTable<Row, ()> {
-        FlatTable::new(alloc)
-    }
+/// One call, or one that is undone at once. A record is a text under a number; the index takes the length of the text.
+#[derive(Clone, Copy)]
+enum Step {
+    Put(i64, &'static str),
+    Take(i64),
+    AddIndex(bool),
+    DropAndPutBack,
+    AddAndPop,
+    EmptyAndPutBack,
+    Empty,
+    Find(i64),
+    Value(i64),
+    Copy,
+    Show,
 }
 
-fn text(alloc: Global, s: &str) -> Result<Text, Fail> {
-    Ok(Text::from_string(String::from_str(alloc, s)?))
-}
-
-/// The Object whose property `e` is this number.
-fn object(rt: &impl Abort, alloc: Global, e: i64) -> Result<Value, Fail> {
-    let mut props = Props::new(alloc);
-    assert!(rt; props.len() < 100);
-    props.set(text(alloc, "e")?, Value::Int(e))?;
-    Ok(Value::Object(props))
-}
-
-fn index_on_e(alloc: Global, unique: bool) -> Result<IndexInfo, Fail> {
+fn by_length(alloc: Global, unique: bool) -> Result<IndexInfo, Fail> {
     Ok(IndexInfo {
-        name: text(alloc, "by e")?,
-        path: KeyPath::parse(PathSpec::One(text(alloc, "e")?))?,
+        name: Text::copy_of(alloc, "by length")?,
+        path: KeyPath::parse(PathSpec::One(Text::copy_of(alloc, "length")?))?,
         unique,
         multi: false,
     })
 }
 
-fn store(alloc: Global) -> Result<IndexedRecords<Flat>, Fail> {
+fn empty_store(alloc: Global) -> Result<Store, Fail> {
     let info = StoreInfo {
-        name: text(alloc, "store")?,
+        name: Text::copy_of(alloc, "texts")?,
         path: None,
         auto: false,
         indexes: IndexInfos::new(alloc),
@@ -60,62 +45,60 @@ fn store(alloc: Global) -> Result<IndexedRecords<Flat>, Fail> {
     Ok(IndexedRecords::new(alloc, info))
 }
 
-/// Whether each list has at most so many rows.
-fn are_short(rows: &Vec<Rows>, n: usize) -> bool
-    ensures { IsTrue result → All (λ list. length list ≤ n) rows.now.items }
-{
-    rows.iter().all(|list| list.len() <= n)
-}
-
-/// Puts a record in, if its key is new; whether it did.
-fn put<T: Tables>(store: &mut IndexedRecords<T>, key: i64, value: Value) -> Result<bool, NoMemory> {
-    let key = Key::Number(key);
-    store.complete()?;
-    if store.find(&key).is_some() {
-        return Ok(false);
-    }
+/// Puts a record in, or another value into the record of its key; what happened.
+fn put(store: &mut Store, key: Key, value: Value) -> Result<&'static str, NoMemory> {
     let rows = store.rows_for(&key, &value)?;
-    if !are_short(&rows, 1) {
-        return Ok(false);
+    match store.find(&key) {
+        Err(place) => {
+            store.reserve(1, rows.count())?;
+            store.put_at(place, key, value, rows);
+            Ok("new ")
+        }
+        Ok(place) => match store.record_at(place) {
+            Some((key, old)) => {
+                let old_rows = store.rows_for(key, old)?;
+                store.reserve(0, rows.count())?;
+                let _ = store.replace_at(place, value, &old_rows, rows);
+                Ok("over ")
+            }
+            None => Ok("? "),
+        },
     }
-    store.reserve(1, 1)?;
-    store.put_in(key, value, rows);
-    Ok(true)
 }
 
-/// Takes the record of this key out, if there is one; whether it did.
-fn take<T: Tables>(store: &mut IndexedRecords<T>, key: i64) -> Result<bool, NoMemory> {
-    store.complete()?;
-    let Some(place) = store.find(&Key::Number(key)) else {
-        return Ok(false);
-    };
-    let Some((key, value)) = store.record_at(place) else {
-        return Ok(false);
-    };
-    let rows = store.rows_for(key, value)?;
-    store.take_out(place, &rows);
-    Ok(true)
+fn take(store: &mut Store, key: i64) -> Result<&'static str, NoMemory> {
+    match store.find(&Key::Number(key)) {
+        Err(_) => Ok("none "),
+        Ok(place) => match store.record_at(place) {
+            Some((key, value)) => {
+                let rows = store.rows_for(key, value)?;
+                if store.len() <= place {
+                    return Ok("? ");
+                }
+                let _ = store.take_out(place, &rows);
+                Ok("taken ")
+            }
+            None => Ok("? "),
+        },
+    }
 }
 
-/// Makes an index; the number that it names where its constraint is broken.
-fn add<T: Tables>(store: &mut IndexedRecords<T>, index: IndexInfo) -> Result<Option<i64>, Fail> {
-    store.complete()?;
-    match store.add_index(index) {
-        Ok(()) => Ok(None),
+/// The number of the key that breaks the index, or 0.
+fn add_index(alloc: Global, store: &mut Store, unique: bool) -> Result<i64, Fail> {
+    match store.add_index(by_length(alloc, unique)?) {
+        Ok(()) => Ok(0),
         Err(
             IndexError::Constraint {
                 key: Key::Number(n),
             },
-        ) => Ok(Some(n)),
+        ) => Ok(n),
         Err(_) => Err("another cause")?,
     }
 }
 
-/// Takes the first index out and puts it back; how many indexes there were between.
-fn drop_and_put_back<T: Tables>(store: &mut IndexedRecords<T>) -> Result<usize, NoMemory> {
-    store.complete()?;
+fn drop_and_put_back(store: &mut Store) -> Result<usize, NoMemory> {
     if store.info().indexes.len() == 0 {
-        return Ok(0);
+        return Ok(9);
     }
     let dropped = store.drop_index(0)?;
     let between = store.info().indexes.len();
@@ -123,49 +106,110 @@ fn drop_and_put_back<T: Tables>(store: &mut IndexedRecords<T>) -> Result<usize, 
     Ok(between)
 }
 
-/// The rows of the first index, as `key:primary`.
-fn listing<T: Tables>(alloc: Global, store: &IndexedRecords<T>) -> Result<String, Fail> {
-    let mut shown = String::new(alloc);
-    if store.info().indexes.len() == 0 {
-        return Ok(shown);
-    }
-    for place in 0..store.count_of(Over::Index(0)) {
-        match store.row(Over::Index(0), place) {
-            Some((Key::Number(key), Key::Number(primary))) => write!(shown, "{key}:{primary} ")?,
-            _ => write!(shown, "? ")?,
+fn add_and_pop(alloc: Global, store: &mut Store) -> Result<usize, Fail> {
+    match store.add_index(by_length(alloc, false)?) {
+        Ok(()) => {
+            let between = store.info().indexes.len();
+            store.pop_index();
+            Ok(between)
         }
+        Err(_) => Err("refused")?,
     }
-    Ok(shown)
 }
 
-#[test]
-fn rows_follow_the_records(rt: HostRuntime) -> Result<(), Fail> {
-    let alloc = rt.alloc();
-    let mut store = store(alloc)?;
-    assert_eq!(rt; add(&mut store, index_on_e(alloc, false)?)?, None);
-    for (key, e) in [(1, 5), (2, 3), (3, 5)] {
-        assert!(rt; put(&mut store, key, object(&rt, alloc, e)?)?);
+fn empty_and_put_back(store: &mut Store) -> Result<usize, NoMemory> {
+    let emptied = store.take_all()?;
+    let between = store.len();
+    store.put_all_back(emptied);
+    Ok(between)
+}
+
+/// The members of the store, and of its first index, as `key:primary`.
+fn push_members(text: &mut String, store: &Store) -> Result<(), Fail> {
+    for over in [Over::Store, Over::Index(0)] {
+        for place in 0..store.row_count(over) {
+            match store.row(over, place) {
+                Some((Key::Number(key), Key::Number(primary))) => write!(text, "{key}:{primary} ")?,
+                _ => write!(text, "? ")?,
+            }
+        }
+        write!(text, "| ")?;
     }
-    assert_eq!(rt; listing(alloc, &store)?.as_str(), "3:2 5:1 5:3 ");
-    assert!(rt; take(&mut store, 1)?);
-    assert!(rt; !take(&mut store, 1)?);
-    assert_eq!(rt; listing(alloc, &store)?.as_str(), "3:2 5:3 ");
-    assert_eq!(rt; listing(alloc, &store.copy()?)?.as_str(), "3:2 5:3 ");
-    assert_eq!(rt; drop_and_put_back(&mut store)?, 0);
-    assert_eq!(rt; listing(alloc, &store)?.as_str(), "3:2 5:3 ");
     Ok(())
 }
 
+/// Does the step, and writes what it answers.
+fn run(alloc: Global, text: &mut String, store: &mut Store, step: Step) -> Result<(), Fail> {
+    match step {
+        Step::Put(key, value) => {
+            let value = Value::Text(Text::copy_of(alloc, value)?);
+            write!(text, "{}", put(store, Key::Number(key), value)?)?
+        }
+        Step::Take(key) => write!(text, "{}", take(store, key)?)?,
+        Step::AddIndex(unique) => write!(text, "{} ", add_index(alloc, store, unique)?)?,
+        Step::DropAndPutBack => write!(text, "{} ", drop_and_put_back(store)?)?,
+        Step::AddAndPop => write!(text, "{} ", add_and_pop(alloc, store)?)?,
+        Step::EmptyAndPutBack => write!(text, "{} ", empty_and_put_back(store)?)?,
+        Step::Empty => {
+            let _ = store.take_all()?;
+        }
+        Step::Find(key) => match store.find(&Key::Number(key)) {
+            Ok(place) => write!(text, "at {place} ")?,
+            Err(place) => write!(text, "gap {place} ")?,
+        },
+        Step::Value(key) => match store.value_of(&Key::Number(key)) {
+            Some(Value::Text(s)) => write!(text, "{} ", s.as_str())?,
+            _ => write!(text, "- ")?,
+        },
+        Step::Copy => push_members(text, &store.copy()?)?,
+        Step::Show => push_members(text, store)?,
+    }
+    Ok(())
+}
+
+/// Records come, go and get other values with their rows; what is undone leaves nothing.
 #[test]
-fn a_repeated_key_breaks_a_unique_index(rt: HostRuntime) -> Result<(), Fail> {
+fn rows_follow_the_records(rt: HostRuntime) -> Result<(), Fail> {
     let alloc = rt.alloc();
-    let mut store = store(alloc)?;
-    assert!(rt; put(&mut store, 7, object(&rt, alloc, 1)?)?);
-    assert!(rt; put(&mut store, 8, object(&rt, alloc, 1)?)?);
-    assert_eq!(rt; add(&mut store, index_on_e(alloc, true)?)?, Some(1));
-    assert_eq!(rt; store.info().indexes.len(), 0);
-    assert!(rt; take(&mut store, 7)?);
-    assert_eq!(rt; add(&mut store, index_on_e(alloc, true)?)?, None);
-    assert_eq!(rt; listing(alloc, &store)?.as_str(), "1:8 ");
+    let mut store = empty_store(alloc)?;
+    let mut text = String::new(alloc);
+    for step in [
+        Step::Show,
+        Step::Put(7, "a"),
+        Step::Put(8, "b"),
+        Step::AddIndex(true),
+        Step::Put(8, "cc"),
+        Step::AddIndex(true),
+        Step::Show,
+        Step::Put(5, "ddd"),
+        Step::Put(7, "eeee"),
+        Step::Put(8, "ff"),
+        Step::Show,
+        Step::Find(7),
+        Step::Find(6),
+        Step::Value(8),
+        Step::Value(9),
+        Step::DropAndPutBack,
+        Step::AddAndPop,
+        Step::EmptyAndPutBack,
+        Step::Copy,
+        Step::Take(7),
+        Step::Take(7),
+        Step::Show,
+        Step::Empty,
+        Step::Show,
+        Step::Put(1, "g"),
+        Step::Show,
+    ] {
+        run(alloc, &mut text, &mut store, step)?;
+    }
+    assert_eq!(rt;
+        text.as_str(),
+        concat!(
+            "| | new new 1 over 0 7:7 8:8 | 1:7 2:8 | new over over ",
+            "5:5 7:7 8:8 | 2:8 3:5 4:7 | at 1 gap 1 ff - 0 2 0 ",
+            "5:5 7:7 8:8 | 2:8 3:5 4:7 | taken none 5:5 8:8 | 2:8 3:5 | | | new 1:1 | 1:1 | "
+        )
+    );
     Ok(())
 }

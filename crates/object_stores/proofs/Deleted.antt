@@ -14,9 +14,9 @@ use Rattle.std.specs.FinMap.{get, remove, retain_keys, entries, get-remove, get-
 use Rattle.clone_values.specs.Tree.{Tree}
 use Rattle.clone_values.specs.KeyTree.{KeyTree}
 use Rattle.key_order.specs.KeyOrder.{key_cmp}
-use Rattle.key_order.proofs.KeyLaws.{key_cmp_total, key_cmp_same}
+use Rattle.key_order.proofs.Laws.{key_cmp_total, key_cmp_same}
 use Rattle.idb_keys.specs.KeyRange.{Range, includes}
-use Rattle.index_rows.specs.Rows.{Records}
+use Rattle.index_tables.specs.RecordRows.{Records}
 
 abbrev is_inside : Range → KeyTree × KeyTree → Bool
 is_inside range m = includes range m.0

@@ -4,19 +4,17 @@ use Rattle.std.proofs.Common.{sym, ap, ◌∙◌, subst, arith}
 use Rattle.std.proofs.lemmas.Bool.{true≢false}
 use Rattle.std.proofs.lemmas.List.{length-append}
 use Rattle.std.proofs.lemmas.List.Folds.{list_any-append}
-use Rattle.std.proofs.lemmas.List.Elements.{All-append, All-take, All-drop, All-head, All-tail, All-cons, All-nil}
 use Rattle.std.proofs.Math.Seq.{take-append_seam}
-use Rattle.std.specs.List.{All, list_any, insert, remove}
+use Rattle.std.specs.List.{list_any, insert, remove}
 use Rattle.idb_schema.specs.declared.definitions.IndexInfo.{IndexInfo}
 use Rattle.idb_schema.specs.declared.definitions.StoreInfo.{StoreInfo}
-use Rattle.index_rows.specs.Rows.{Records}
-use Rattle.index_rows.specs.Unique.{broken_key, is_broken}
-use Rattle.indexed_records.specs.Contents.{AreAtLeast, with_index, without_last, without_index, with_index_at}
-use Rattle.object_stores.proofs.Spare.{AreFree}
+use Rattle.index_tables.specs.RecordRows.{Records}
+use Rattle.index_tables.specs.Unique.{broken_key, is_broken}
+use Rattle.indexed_records.specs.Contents.{info_with_index, info_without_last, info_without_index, info_with_index_at}
 use Rattle.object_stores.proofs.Off.{same_some as some_same}
 
 -- the last index is taken away again
-pub last_gone : (info : StoreInfo) (index : IndexInfo) → without_last (with_index info index) ≡ info
+pub last_gone : (info : StoreInfo) (index : IndexInfo) → info_without_last (info_with_index info index) ≡ info
 last_gone info index =
     let all = info.indexes ++ index ∷ [] in
     let one : length all - 1 ≡ length info.indexes = omega (arith, length-append info.indexes (index ∷ [])) in
@@ -51,32 +49,10 @@ in_place_again [] (suc place) x e = absurd (true≢false (sym (ap is_some e)))
 in_place_again (y ∷ xs) zero x e = ap (λ z. z ∷ xs) (sym (some_same y x e))
 in_place_again (y ∷ xs) (suc place) x e = ap (λ zs. y ∷ zs) (in_place_again xs place x e)
 
-pub back_again : (info : StoreInfo) (place : ℕ) (index : IndexInfo) → slice_get info.indexes place ≡ Some index → with_index_at (without_index info place) place index ≡ info
+pub back_again : (info : StoreInfo) (place : ℕ) (index : IndexInfo) → slice_get info.indexes place ≡ Some index → info_with_index_at (info_without_index info place) place index ≡ info
 back_again info place index e = λ i. record info { indexes = in_place_again info.indexes place index e i }
 
 pub one_less : {A : Type 0} (xs : List A) (place : ℕ) → place < length xs → length (remove xs place) + 1 ≡ length xs
 one_less [] place h = absurd (omega (arith, h))
 one_less (x ∷ xs) zero h = omega arith
 one_less (x ∷ xs) (suc place) h = let rest = one_less xs place (omega (arith, h)) in omega (arith, rest)
-
--- ---- spare places
-pub free_without : (n : ℕ) (spares : List ℕ) (place : ℕ) → AreFree n spares → AreFree n (remove spares place)
-free_without n spares place all = All-append (λ s. n ≤ s) (take place spares) (drop (suc place) spares) (All-take (λ s. n ≤ s) place spares all) (All-drop (λ s. n ≤ s) (suc place) spares all)
-
-pub free_at : (n : ℕ) (spares : List ℕ) (place spare : ℕ) → AreFree n spares → slice_get spares place ≡ Some spare → n ≤ spare
-free_at n [] zero spare all e = absurd (true≢false (sym (ap is_some e)))
-free_at n [] (suc place) spare all e = absurd (true≢false (sym (ap is_some e)))
-free_at n (s ∷ spares) zero spare all e = subst (λ t. n ≤ t) (some_same s spare e) (All-head (λ s. n ≤ s) s spares all)
-free_at n (s ∷ spares) (suc place) spare all e = free_at n spares place spare (All-tail (λ s. n ≤ s) s spares all) e
-
-pub at_least_again : (a b c : List ℕ) → AreAtLeast a b → AreAtLeast b c → AreAtLeast a c
-at_least_again [] b c h k = tt
-at_least_again (x ∷ a) [] c h k = absurd h
-at_least_again (x ∷ a) (y ∷ b) [] h k = absurd k
-at_least_again (x ∷ a) (y ∷ b) (z ∷ c) h k = (omega (arith, h.0, k.0), at_least_again a b c h.1 k.1)
-
-pub free_front : (n : ℕ) (old new : List ℕ) → AreAtLeast old new → AreFree n old → AreFree n (take (length old) new)
-free_front n [] new h all = All-nil _
-free_front n (s ∷ old) [] h all = absurd h
-free_front n (s ∷ old) (t ∷ new) h all =
-    All-cons (λ s. n ≤ s) t (take (length old) new) (omega (arith, h.0, All-head (λ s. n ≤ s) s old all)) (free_front n old new h.1 (All-tail (λ s. n ≤ s) s old all))

@@ -1,10 +1,12 @@
-pub mod Spare
 pub mod Logged
-pub mod Added
-pub mod Removed
-pub mod Cleared
 pub mod Off
 pub mod Past
-pub mod Over
 pub mod Deleted
 pub mod Indexes
+pub mod Fine
+pub mod Back
+pub mod Marks
+pub mod ChangeLemmas
+pub mod ChoiceLemmas
+pub mod RecordChanges
+pub mod Laws

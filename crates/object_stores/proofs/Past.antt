@@ -15,7 +15,7 @@ keeps_again first second = record {
   places = λ place h. second.places place (omega (arith, h, first.longer)) ∙ first.places place h;
 }
 
-pushed_at : (past : List Content) (c d : Content) (place : ℕ) → place ≤ length past → content_at (past ++ c ∷ []) d place ≡ content_at past c place
+pub pushed_at : (past : List Content) (c d : Content) (place : ℕ) → place ≤ length past → content_at (past ++ c ∷ []) d place ≡ content_at past c place
 unfolding content_at
 pushed_at [] c d zero h = refl
 pushed_at [] c d (suc place) h = absurd (omega (arith, h))
@@ -45,7 +45,7 @@ back_past old new d place e h = sym (take-append-le place new (d ∷ []) h) ∙ 
 pub back_length : (old new : List Content) (d : Content) (place : ℕ) → old ≡ new ++ d ∷ [] → place < length old → place ≤ length new
 back_length old new d place e h = omega (arith, h, ap length e, length-append new (d ∷ []))
 
-cut_at : (past : List Content) (c : Content) (n place : ℕ) → place ≤ n → n ≤ length past → content_at (take n past) (content_at past c n) place ≡ content_at past c place
+pub cut_at : (past : List Content) (c : Content) (n place : ℕ) → place ≤ n → n ≤ length past → content_at (take n past) (content_at past c n) place ≡ content_at past c place
 unfolding content_at
 cut_at [] c zero place h k = refl
 cut_at [] c (suc n) place h k = absurd (omega (arith, k))

@@ -1,6 +1,7 @@
 pub mod Store
+pub mod IsStore
+pub mod Changed
 pub mod Showing
-pub mod Deleting
 pub mod View
 pub mod Storing
 pub mod Undo

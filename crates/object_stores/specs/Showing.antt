@@ -2,15 +2,15 @@
 --     shown_in              the key and the primary key of each of its members, in order
 --     chosen_in             those in a range, or all where no range is given
 use denote.Ref.{Bor}
-use Rattle.std.specs.Prelude.{List, Option, option_map}
-use Rattle.clone_values.specs.KeyTree.{KeyTree}
+use Rattle.std.specs.Prelude.{List, Option}
 use Rattle.idb_keys.specs.KeyRange.{Range}
 use Rattle.idb_keys.specs.declared.names.Over.{Over}
-use Rattle.indexed_records.specs.Reading.{members_of, selected, range_or_all}
-use Rattle.object_stores.specs.Store.{Content}
+use Rattle.index_tables.specs.Rows.{RowTree}
+use Rattle.indexed_records.specs.Reading.{members_in, selected, asked}
+use Rattle.object_stores.specs.Store.{Store}
 
-abbrev pub shown_in : Content → Over → List (KeyTree × KeyTree)
-shown_in content over = members_of content.info.indexes content.records over
+abbrev pub shown_in : Store → Over → List RowTree
+shown_in store over = members_in store.info.indexes store.records over
 
-abbrev pub chosen_in : Content → Over → Option (Bor Range) → List (KeyTree × KeyTree)
-chosen_in content over range = selected (range_or_all (option_map (λ r. r.now) range)) (shown_in content over)
+abbrev pub chosen_in : Store → Over → Option (Bor Range) → List RowTree
+chosen_in store over range = selected (asked range) (shown_in store over)

@@ -1,38 +1,40 @@
 // What was changed since the last mark was forgotten, and what undoes it.
 use clone_values::{Key, Value};
-use index_tables::{Rows, Tables};
-use indexed_records::{Dropped, IndexedRecords};
+use index_tables::Tables;
+use indexed_records::{Dropped, Emptied, IndexedRecords, RowLists};
 
 /// A change that can be undone.
 #[derive(Drop)]
 pub(crate) enum Change<T: Tables> {
     /// A record came, with these rows.
-    Added {
-        key: Key,
-        rows: Vec<Rows>,
-    },
-    /// A record went, with these rows, so many in all.
+    Added { key: Key, rows: RowLists },
+    /// A record went, with these rows.
     Removed {
         key: Key,
         value: Value,
-        rows: Vec<Rows>,
-        count: usize,
+        rows: RowLists,
+    },
+    /// A record got another value: it had this one, with the first rows, and has the second now.
+    Replaced {
+        key: Key,
+        value: Value,
+        rows: RowLists,
+        new_rows: RowLists,
     },
     /// All records went; they were these, and the changes before it needed so many records and rows.
     Cleared {
-        before: IndexedRecords<T>,
+        emptied: Emptied<T>,
         removed: usize,
         rows: usize,
     },
     /// The last index came.
     IndexAdded,
     /// An index went.
-    IndexDropped {
-        dropped: Dropped<T>,
-    },
+    IndexDropped { dropped: Dropped<T> },
 }
 
-/// The content of an object store in its parts.
+/// The content of an object store in its parts: what it has, its changes, and how many records and rows come back where
+/// all of these are undone.
 #[derive(Drop)]
 pub(crate) struct Parts<T: Tables> {
     pub(crate) contents: IndexedRecords<T>,

@@ -1,18 +1,17 @@
 // Deleting the records of a range.
-ghost use Rattle.std.specs.Prelude.{◌≡◌, ◌<◌, ◌≤◌, not, Some, slice_get, length, OnOk, OnErr};
+ghost use Rattle.std.specs.Prelude.{◌≡◌, ◌<◌, slice_get, Some, OnOk, OnErr};
 ghost use Rattle.std.specs.FinMap as finite;
 ghost use Rattle.clone_values.specs.KeyTree.{KeyTree};
 ghost use Rattle.clone_values.specs.Tree.{Tree};
-ghost use Rattle.idb_keys.specs.KeyRange.{includes};
 ghost use Rattle.object_stores.specs.Store.{KeepsPlaces};
-ghost use Rattle.object_stores.specs.Deleting.{without_range};
+ghost use Rattle.object_stores.specs.Changed.{outside_range};
 ghost use Rattle.object_stores.specs.Parts.{content_in, past_in, IsSound};
 
 use crate::changes::Parts;
 use crate::changing::{ready, remove};
 use crate::putting::rows_at;
 use crate::undoing::undo_to;
-use clone_values::NoMemory;
+use idb_base::NoMemory;
 use idb_keys::{KeyRange, Over};
 use index_tables::Tables;
 use range_reads::span;
@@ -21,9 +20,11 @@ use range_reads::span;
 pub(crate) fn delete<T: Tables>(parts: &mut Parts<T>, range: &KeyRange) -> Result<(), NoMemory>
     requires { IsSound parts.old }
     ensures sound { IsSound parts.new }
-    ensures deleted { OnOk result (content_in parts.new ≡ without_range (content_in parts.old) range.now) }
+    ensures deleted { OnOk result (content_in parts.new
+        ≡ record (content_in parts.old) { records = outside_range parts.old.contents.records range.now }) }
     ensures unchanged { OnErr result (content_in parts.new ≡ content_in parts.old) }
-    ensures past { KeepsPlaces (past_in parts.old) (content_in parts.old) (past_in parts.new) (content_in parts.new) }
+    ensures past { KeepsPlaces (past_in parts.old) (content_in parts.old)
+        (past_in parts.new) (content_in parts.new) }
 {
     let before = parts.log.len();
     match delete_each(parts, range) {
@@ -39,8 +40,10 @@ pub(crate) fn delete<T: Tables>(parts: &mut Parts<T>, range: &KeyRange) -> Resul
 fn delete_each<T: Tables>(parts: &mut Parts<T>, range: &KeyRange) -> Result<(), NoMemory>
     requires { IsSound parts.old }
     ensures sound { IsSound parts.new }
-    ensures deleted { OnOk result (content_in parts.new ≡ without_range (content_in parts.old) range.now) }
-    ensures past { KeepsPlaces (past_in parts.old) (content_in parts.old) (past_in parts.new) (content_in parts.new) }
+    ensures deleted { OnOk result (content_in parts.new
+        ≡ record (content_in parts.old) { records = outside_range parts.old.contents.records range.now }) }
+    ensures past { KeepsPlaces (past_in parts.old) (content_in parts.old)
+        (past_in parts.new) (content_in parts.new) }
 {
     loop {
         let (start, past) = span(&parts.contents, Over::Store, Some(range));
@@ -56,13 +59,17 @@ fn take_at<T: Tables>(parts: &mut Parts<T>, place: usize) -> Result<(), NoMemory
     requires sound { IsSound parts.old }
     requires within { place < finite.len parts.old.contents.records }
     ensures sound { IsSound parts.new }
-    ensures taken { OnOk result ((k : KeyTree) (v : Tree) → slice_get (finite.entries parts.old.contents.records) place ≡ Some (k, v)
-        → content_in parts.new ≡ record (content_in parts.old) { records = finite.remove parts.old.contents.records k }) }
-    ensures fewer { OnOk result (finite.len parts.new.contents.records < finite.len parts.old.contents.records) }
-    ensures past { KeepsPlaces (past_in parts.old) (content_in parts.old) (past_in parts.new) (content_in parts.new) }
+    ensures taken { OnOk result ((k : KeyTree) (v : Tree)
+        → slice_get (finite.entries parts.old.contents.records) place ≡ Some (k, v)
+        → content_in parts.new
+        ≡ record (content_in parts.old) { records = finite.remove parts.old.contents.records k }) }
+    ensures fewer { OnOk result (finite.len parts.new.contents.records
+        < finite.len parts.old.contents.records) }
+    ensures past { KeepsPlaces (past_in parts.old) (content_in parts.old)
+        (past_in parts.new) (content_in parts.new) }
 {
-    let (rows, count) = rows_at(parts, place)?;
-    ready(parts, 1, 1, count)?;
-    remove(parts, place, rows, count);
+    let rows = rows_at(parts, place)?;
+    ready(parts, 1, 1, rows.count())?;
+    remove(parts, place, rows);
     Ok(())
 }

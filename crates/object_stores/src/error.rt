@@ -1,5 +1,5 @@
 // Why a store did not change.
-use clone_values::NoMemory;
+use idb_base::NoMemory;
 
 /// Why a record was not stored.
 #[derive(Clone, Copy, Debug, PartialEq, Eq)]
@@ -7,6 +7,7 @@ pub enum StoreError {
     /// The key generator has no number left, `add` found a record of the same key, or a unique index would have two rows of
     /// one key.
     Constraint,
+    /// Memory ran out.
     NoMemory,
 }
 

@@ -1,6 +1,7 @@
 // Object stores: records with their indexes and key generator, and every change of them undone without memory.
 //
-// Layers above hold a `StoreVersion`, which contracts see as plain data: the store, and its content before each change.
+// Layers above hold a `StoreVersion`, which contracts see as plain data: the store, its content before each change, and what it
+// was at the last settle. It is a store as the standard asks at each moment.
 #![tactic(auto)]
 
 mod changes;
@@ -9,6 +10,7 @@ mod choosing;
 mod deleting;
 mod error;
 mod indexing;
+mod meanings;
 mod putting;
 mod store;
 mod undoing;
@@ -16,6 +18,7 @@ mod whole;
 
 pub use error::StoreError;
 pub use indexed_records::IndexError;
+pub use meanings::{mark_laws, store_laws};
 pub use store::{Mark, StoreVersion};
 
 #[cfg(test)]

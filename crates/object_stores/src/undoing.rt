@@ -1,17 +1,17 @@
 // Undoing the changes of a store, from the newest on. It takes no memory.
-ghost use Rattle.std.specs.Prelude.{◌≡◌, ◌+◌, ◌<◌, ◌≤◌, ◌^◌, [], ◌∷◌, ◌++◌, length, take};
+ghost use Rattle.std.specs.Prelude.{◌≡◌, ◌+◌, ◌<◌, ◌≤◌, [], ◌∷◌, ◌++◌, length, take};
 ghost use Rattle.std.specs.FinMap as finite;
 ghost use Rattle.clone_values.specs.View.{key_tree_of, tree_of};
-ghost use Rattle.indexed_records.specs.Contents.{without_last, with_index_at};
+ghost use Rattle.indexed_records.specs.Contents.{info_without_last, info_with_index_at};
 ghost use Rattle.object_stores.specs.Store.{content_at};
-ghost use Rattle.object_stores.specs.Undo.{undone, rows_among};
-ghost use Rattle.object_stores.specs.Parts.{content_in, log_in, past_in, IsSound, IsOff};
+ghost use Rattle.object_stores.specs.Undo.{undone};
+ghost use Rattle.object_stores.specs.Parts.{content_in, past_in, IsSound, IsOff};
 ghost use Rattle.object_stores.specs.declared.changes.Change.TheVariants as change;
 
 use crate::changes::{Change, Parts};
 use clone_values::{Key, Value};
-use index_tables::{Rows, Tables};
-use indexed_records::{Dropped, IndexedRecords};
+use index_tables::Tables;
+use indexed_records::{Dropped, Emptied, RowLists};
 
 /// Undoes the newest change.
 pub(crate) fn undo_one<T: Tables>(parts: &mut Parts<T>)
@@ -35,65 +35,82 @@ fn undo<T: Tables>(parts: &mut Parts<T>, change: Change<T>)
 {
     match change {
         Change::Added { key, rows } => return undo_added(parts, &key, &rows),
-        Change::Removed {
+        Change::Removed { key, value, rows } => return undo_removed(parts, key, value, rows),
+        Change::Replaced {
             key,
             value,
             rows,
-            count,
-        } => return undo_removed(parts, key, value, rows, count),
+            new_rows,
+        } => return undo_replaced(parts, &key, value, rows, &new_rows),
         Change::Cleared {
-            before,
+            emptied,
             removed,
             rows,
-        } => return undo_cleared(parts, before, removed, rows),
+        } => return undo_cleared(parts, emptied, removed, rows),
         Change::IndexAdded => return undo_index_added(parts),
         Change::IndexDropped { dropped } => return undo_index_dropped(parts, dropped),
     }
 }
 
-fn undo_added<T: Tables>(parts: &mut Parts<T>, key: &Key, rows: &Vec<Rows>)
+fn undo_added<T: Tables>(parts: &mut Parts<T>, key: &Key, rows: &RowLists)
     requires { IsOff (change.Added key.now rows.now) parts.old }
     ensures sound { IsSound parts.new }
-    ensures content { content_in parts.new ≡ record (content_in parts.old) { records = finite.remove parts.old.contents.records (key_tree_of key.now) } }
+    ensures content { content_in parts.new ≡ record (content_in parts.old) {
+        records = finite.remove parts.old.contents.records (key_tree_of key.now) } }
     ensures log { parts.new.log.items ≡ parts.old.log.items }
 {
     match parts.contents.find(key) {
-        Some(place) => {
+        Ok(place) => {
             let _ = parts.contents.take_out(place, rows);
         }
-        None => unreachable!(),
+        Err(_) => unreachable!(),
     }
 }
 
-fn undo_removed<T: Tables>(
-    parts: &mut Parts<T>,
-    key: Key,
-    value: Value,
-    rows: Vec<Rows>,
-    count: usize,
-)
-    requires { IsOff (change.Removed key value rows count) parts.old }
+fn undo_removed<T: Tables>(parts: &mut Parts<T>, key: Key, value: Value, rows: RowLists)
+    requires { IsOff (change.Removed key value rows) parts.old }
     ensures sound { IsSound parts.new }
-    ensures content { content_in parts.new ≡ record (content_in parts.old) { records = finite.insert parts.old.contents.records (key_tree_of key) (tree_of value) } }
+    ensures content { content_in parts.new ≡ record (content_in parts.old) {
+        records = finite.insert parts.old.contents.records (key_tree_of key) (tree_of value) } }
     ensures log { parts.new.log.items ≡ parts.old.log.items }
 {
     parts.removed -= 1;
-    parts.rows -= count;
-    parts.contents.put_in(key, value, rows);
+    parts.rows -= rows.count();
+    match parts.contents.find(&key) {
+        Ok(_) => unreachable!(),
+        Err(place) => parts.contents.put_at(place, key, value, rows),
+    }
 }
 
-fn undo_cleared<T: Tables>(
+fn undo_replaced<T: Tables>(
     parts: &mut Parts<T>,
-    before: IndexedRecords<T>,
-    removed: usize,
-    rows: usize,
+    key: &Key,
+    value: Value,
+    rows: RowLists,
+    new_rows: &RowLists,
 )
-    requires { IsOff (change.Cleared before removed rows) parts.old }
+    requires { IsOff (change.Replaced key.now value rows new_rows.now) parts.old }
     ensures sound { IsSound parts.new }
-    ensures content { content_in parts.new ≡ record (content_in parts.old) { info = before.info; records = before.records } }
+    ensures content { content_in parts.new ≡ record (content_in parts.old) {
+        records = finite.insert parts.old.contents.records (key_tree_of key.now) (tree_of value) } }
     ensures log { parts.new.log.items ≡ parts.old.log.items }
 {
-    parts.contents = before;
+    parts.rows -= rows.count();
+    match parts.contents.find(key) {
+        Ok(place) => {
+            let _ = parts.contents.replace_at(place, value, new_rows, rows);
+        }
+        Err(_) => unreachable!(),
+    }
+}
+
+fn undo_cleared<T: Tables>(parts: &mut Parts<T>, emptied: Emptied<T>, removed: usize, rows: usize)
+    requires { IsOff (change.Cleared emptied removed rows) parts.old }
+    ensures sound { IsSound parts.new }
+    ensures content { content_in parts.new ≡ record (content_in parts.old) { records = emptied.records } }
+    ensures log { parts.new.log.items ≡ parts.old.log.items }
+{
+    parts.contents.put_all_back(emptied);
     parts.removed = removed;
     parts.rows = rows;
 }
@@ -101,7 +118,8 @@ fn undo_cleared<T: Tables>(
 fn undo_index_added<T: Tables>(parts: &mut Parts<T>)
     requires { IsOff change.IndexAdded parts.old }
     ensures sound { IsSound parts.new }
-    ensures content { content_in parts.new ≡ record (content_in parts.old) { info = without_last parts.old.contents.info } }
+    ensures content { content_in parts.new
+        ≡ record (content_in parts.old) { info = info_without_last parts.old.contents.info } }
     ensures log { parts.new.log.items ≡ parts.old.log.items }
 {
     parts.contents.pop_index();
@@ -110,7 +128,8 @@ fn undo_index_added<T: Tables>(parts: &mut Parts<T>)
 fn undo_index_dropped<T: Tables>(parts: &mut Parts<T>, dropped: Dropped<T>)
     requires { IsOff (change.IndexDropped dropped) parts.old }
     ensures sound { IsSound parts.new }
-    ensures content { content_in parts.new ≡ record (content_in parts.old) { info = with_index_at parts.old.contents.info dropped.place dropped.index } }
+    ensures content { content_in parts.new ≡ record (content_in parts.old) {
+        info = info_with_index_at parts.old.contents.info dropped.place dropped.index } }
     ensures log { parts.new.log.items ≡ parts.old.log.items }
 {
     parts.contents.put_back(dropped);

@@ -1,3 +1,4 @@
-pub mod Fitting
+pub mod MemberLemmas
 pub mod Splitting
-pub mod Members
+pub mod Rising
+pub mod Laws

@@ -12,10 +12,11 @@ use Rattle.std.specs.declared.cmp.Ordering.TheVariants.{Less, Equal, Greater}
 use Rattle.std.specs.Ordering.{ordering_reverse}
 use Rattle.clone_values.specs.KeyTree.{KeyTree}
 use Rattle.key_order.specs.KeyOrder.{key_cmp}
-use Rattle.key_order.proofs.KeyLaws.{key_cmp_total}
+use Rattle.key_order.proofs.Laws.{key_cmp_total}
 use Rattle.idb_keys.specs.KeyRange.{Range, bound_at, every_key, admits, meets_lower, meets_upper}
 use Rattle.indexed_records.specs.Reading.{selected, limited}
-use Rattle.range_reads.specs.Ends.{Split, LowerEnd, UpperEnd}
+use Rattle.indexed_records.specs.Ends.{Splits, IsFirstFrom}
+use Rattle.range_reads.specs.PastLast.{IsPastLast}
 
 left : (a b : Bool) → a && b ≡ true → a ≡ true
 left true b h = refl
@@ -75,13 +76,13 @@ module _ {A : Type 0} (low high : A → Bool) where
       ∙ between xs s e (right _ _ a) b (right _ _ c) d
       ∙ (let n : e - s ≡ suc e - suc s = omega arith in ap (λ n. take n (drop s xs)) n)
 
-pub span_selected : (range : Range) (ms : List (KeyTree × KeyTree)) (s e : ℕ) → LowerEnd range.lower ms s → UpperEnd range.upper ms e
+pub span_selected : (range : Range) (ms : List (KeyTree × KeyTree)) (s e : ℕ) → IsFirstFrom range.lower ms s → IsPastLast range.upper ms e
     → take (e - s) (drop s ms) ≡ selected range ms
 span_selected range ms s e low high = sym (between (λ m. meets_lower range.lower m.0) (λ m. meets_upper range.upper m.0) ms s e
     (list_all-from_AllPass _ _ low.before) (list_all-from_AllPass _ _ low.behind) (list_all-from_AllPass _ _ high.before) (list_all-from_AllPass _ _ high.behind))
 
 -- where the upper place is before the lower one, nothing is selected
-pub no_span : (range : Range) (ms : List (KeyTree × KeyTree)) (s e : ℕ) → LowerEnd range.lower ms s → UpperEnd range.upper ms e → e < s
+pub no_span : (range : Range) (ms : List (KeyTree × KeyTree)) (s e : ℕ) → IsFirstFrom range.lower ms s → IsPastLast range.upper ms e → e < s
     → take (s - s) (drop s ms) ≡ selected range ms
 no_span range ms s e low high h = (let n : s - s ≡ e - s = omega arith in ap (λ n. take n (drop s ms)) n) ∙ span_selected range ms s e low high
 
@@ -94,10 +95,10 @@ pub all_selected : (n : ℕ) (ms : List (KeyTree × KeyTree)) → n ≡ length m
 all_selected n ms e = take_all (n - 0) ms (omega arith) ∙ sym (filtered_all ms)
 
 -- ---- the ends
-pub all_start : (ms : List (KeyTree × KeyTree)) → LowerEnd None ms 0
+pub all_start : (ms : List (KeyTree × KeyTree)) → IsFirstFrom None ms 0
 all_start ms = record { within = omega arith; before = λ k d lt. absurd (omega arith); behind = λ k d lt. refl }
 
-pub all_past : (ms : List (KeyTree × KeyTree)) → UpperEnd None ms (length ms)
+pub all_past : (ms : List (KeyTree × KeyTree)) → IsPastLast None ms (length ms)
 all_past ms = record { within = omega arith; before = λ k d lt. refl; behind = λ k d lt. absurd (omega (arith, length-drop (length ms) ms)) }
 
 turn : (k m : KeyTree) (is_open : Bool) → meets_lower (Some (bound_at k (not is_open))) m ≡ not (meets_upper (Some (bound_at k is_open)) m)
@@ -106,8 +107,8 @@ turn k m is_open =
     ∙ elim (key_cmp m k) as (λ o. admits (not is_open) (ordering_reverse o) ≡ not (admits is_open o)) [ Less ↦ refl | Equal ↦ refl | Greater ↦ refl ]
 
 pub turned : (k : KeyTree) (is_open : Bool) (ms : List (KeyTree × KeyTree)) (place : ℕ)
-    → LowerEnd (Some (bound_at k (not is_open))) ms place → UpperEnd (Some (bound_at k is_open)) ms place
-turned k is_open ms place h = subst (λ (test : KeyTree × KeyTree → Bool). Split test ms place) (λ i m. turn k m.0 is_open i) h
+    → IsFirstFrom (Some (bound_at k (not is_open))) ms place → IsPastLast (Some (bound_at k is_open)) ms place
+turned k is_open ms place h = subst (λ (test : KeyTree × KeyTree → Bool). Splits test ms place) (λ i m. turn k m.0 is_open i) h
 
 -- ---- limits
 limited_some : {A : Type 0} (limit : ℕ) (xs : List A) → 0 < limit → take limit xs ≡ limited limit xs

@@ -1,9 +1,8 @@
 // Where the members of a range stand.
 ghost use Rattle.std.specs.Prelude.{◌≡◌, ◌-◌, ◌≤◌, length, take, drop};
-ghost use Rattle.indexed_records.specs.Contents.{StandsIn};
-ghost use Rattle.indexed_records.specs.Reading.{limited, selected};
-ghost use Rattle.range_reads.specs.Asked.{members_in, chosen};
-ghost use Rattle.range_reads.specs.Ends.{LowerEnd, UpperEnd};
+ghost use Rattle.indexed_records.specs.Ends.{IsFirstFrom};
+ghost use Rattle.range_reads.specs.PastLast.{IsPastLast};
+ghost use Rattle.indexed_records.specs.Reading.{members_in, limited, selected, asked};
 
 use idb_keys::{KeyRange, Over};
 use index_tables::Tables;
@@ -16,27 +15,25 @@ pub fn span<T: Tables>(
     over: Over,
     range: Option<&KeyRange>,
 ) -> (usize, usize)
-    requires { StandsIn records.now.info.indexes over }
     ensures order { result.0 ≤ result.1 }
-    ensures within { result.1 ≤ length (members_in records.now over) }
-    ensures selected { take (result.1 - result.0) (drop result.0 (members_in records.now over)) ≡ chosen records.now over range.entry }
+    ensures within { result.1 ≤ length (members_in records.now.info.indexes records.now.records over) }
+    ensures selected { take (result.1 - result.0)
+        (drop result.0 (members_in records.now.info.indexes records.now.records over))
+        ≡ selected (asked range.entry) (members_in records.now.info.indexes records.now.records over) }
 {
     match range {
         Some(range) => span_of(records, over, range),
-        None => (0, records.count_of(over)),
+        None => (0, records.row_count(over)),
     }
 }
 
 /// The span of a range that is given.
-pub(crate) fn span_of<T: Tables>(
-    records: &IndexedRecords<T>,
-    over: Over,
-    range: &KeyRange,
-) -> (usize, usize)
-    requires { StandsIn records.now.info.indexes over }
+fn span_of<T: Tables>(records: &IndexedRecords<T>, over: Over, range: &KeyRange) -> (usize, usize)
     ensures order { result.0 ≤ result.1 }
-    ensures within { result.1 ≤ length (members_in records.now over) }
-    ensures selected { take (result.1 - result.0) (drop result.0 (members_in records.now over)) ≡ selected range.now (members_in records.now over) }
+    ensures within { result.1 ≤ length (members_in records.now.info.indexes records.now.records over) }
+    ensures selected { take (result.1 - result.0)
+        (drop result.0 (members_in records.now.info.indexes records.now.records over))
+        ≡ selected range.now (members_in records.now.info.indexes records.now.records over) }
 {
     let start = lower_end(records, over, range);
     let past = upper_end(records, over, range);
@@ -48,9 +45,13 @@ pub(crate) fn span_of<T: Tables>(
 }
 
 /// The place of the first member that meets the range's lower bound.
-fn lower_end<T: Tables>(records: &IndexedRecords<T>, over: Over, range: &KeyRange) -> usize
-    requires { StandsIn records.now.info.indexes over }
-    ensures { LowerEnd range.now.lower (members_in records.now over) result }
+pub(crate) fn lower_end<T: Tables>(
+    records: &IndexedRecords<T>,
+    over: Over,
+    range: &KeyRange,
+) -> usize
+    ensures { IsFirstFrom range.now.lower
+        (members_in records.now.info.indexes records.now.records over) result }
 {
     match range.lower_bound() {
         Some((key, is_open)) => records.first_from(over, Some(key), is_open),
@@ -60,12 +61,12 @@ fn lower_end<T: Tables>(records: &IndexedRecords<T>, over: Over, range: &KeyRang
 
 /// The place of the first member that does not meet the range's upper bound: its key meets that bound turned round.
 fn upper_end<T: Tables>(records: &IndexedRecords<T>, over: Over, range: &KeyRange) -> usize
-    requires { StandsIn records.now.info.indexes over }
-    ensures { UpperEnd range.now.upper (members_in records.now over) result }
+    ensures { IsPastLast range.now.upper
+        (members_in records.now.info.indexes records.now.records over) result }
 {
     match range.upper_bound() {
         Some((key, is_open)) => records.first_from(over, Some(key), !is_open),
-        None => records.count_of(over),
+        None => records.row_count(over),
     }
 }
 
@@ -76,9 +77,11 @@ pub(crate) fn limited_span<T: Tables>(
     range: Option<&KeyRange>,
     limit: u32,
 ) -> (usize, usize)
-    requires { StandsIn records.now.info.indexes over }
     ensures order { result.0 ≤ result.1 }
-    ensures limited { take (result.1 - result.0) (drop result.0 (members_in records.now over)) ≡ limited limit (chosen records.now over range.entry) }
+    ensures limited { take (result.1 - result.0)
+        (drop result.0 (members_in records.now.info.indexes records.now.records over))
+        ≡ limited limit
+        (selected (asked range.entry) (members_in records.now.info.indexes records.now.records over)) }
 {
     let (start, past) = span(records, over, range);
     let most = limit as usize;
@@ -89,11 +92,11 @@ pub(crate) fn limited_span<T: Tables>(
     }
 }
 
-/// How many records or rows have their key in the range (Indexed Database API 3.0, 6.3); without a range, how many there
+/// How many records or rows have their key in the range ("count the records in a range"); without a range, how many there
 /// are. It takes no memory.
 pub fn count<T: Tables>(records: &IndexedRecords<T>, over: Over, range: Option<&KeyRange>) -> u64
-    requires { StandsIn records.now.info.indexes over }
-    ensures { result ≡ length (chosen records.now over range.entry) }
+    ensures { result ≡ length (selected (asked range.entry)
+        (members_in records.now.info.indexes records.now.records over)) }
 {
     let (start, past) = span(records, over, range);
     (past - start) as u64

@@ -1,8 +1,8 @@
 use Rattle.std.proofs.Common.{◌≡◌, take}
-use Rattle.index_rows.specs.Rows.{index_rows}
+use Rattle.index_tables.specs.RecordRows.{index_rows}
 use Rattle.indexed_records.specs.View.{records_of}
 use Rattle.indexed_records.proofs.building.add_all.Given as goal
 
 -- the rows of the records so far
 abbrev pub invariant-loop-place : goal.invariant-loop-place
-invariant-loop-place g l = l.table.rows ≡ index_rows l.index (records_of (take l.place (g.T.Records.OrderedTable.entries l.records)))
+invariant-loop-place g l = l.table.rows ≡ index_rows l.index (records_of (take l.place (g.R.OrderedTable.entries l.records)))

@@ -1,6 +1,6 @@
 use Rattle.std.proofs.Common.{◌≡◌, drop}
 use Rattle.index_tables.specs.Rows.{rows_of}
-use Rattle.index_rows.specs.Unique.{first_repeated}
+use Rattle.index_tables.specs.Unique.{first_repeated}
 use Rattle.indexed_records.proofs.building.repeated_key.Given as goal
 
 -- no two of the rows so far have one key

@@ -8,20 +8,12 @@ use Rattle.indexed_records.proofs.growing.add_in.Goals.{in-Some, in_default}
 pub loop-table-init : goal.loop-table-init
 loop-table-init g c = record { left = c.into_iter-lists.ensures.rest; walked = refl }
 
-can_add : (g : _) (c : goal.In-Some g) → CanAdd c.in-Some.list (get_or c.loop-table.tables c.loop-table.table-index c.table-item.result) (get_or c.loop-table.tables c.loop-table.table-index c.table-item.result)
-can_add g c =
+pub add_rows-requires : goal.add_rows-requires
+add_rows-requires g c =
     let lt : c.loop-table.table-index < length c.loop-table.tables = omega (arith, c.loop-table.auto.tables, c.loop-table-test.true) in
     let there = sym (walked_get Adds _ _ _ _ c.loop-table.invariant.walked) ∙ slice_get-get_or c.loop-table.tables c.loop-table.table-index c.table-item.result lt in
-    all_at CanAdd _ _ _ c.loop-table.table-index _ _ _ c.requires (next_at _ c.loop-table.table-index _ _ _ c.loop-table.invariant.left c.in-Some.ensures.items) there there
-
-pub add_rows-requires-clause-room : goal.add_rows-requires-clause-room
-add_rows-requires-clause-room g c = (can_add g c).0
-
-pub add_rows-requires-clause-absent : goal.add_rows-requires-clause-absent
-add_rows-requires-clause-absent g c = (can_add g c).1
-
-pub add_rows-requires-clause-once : goal.add_rows-requires-clause-once
-add_rows-requires-clause-once g c = (can_add g c).2
+    let room = all_at CanAdd _ _ _ c.loop-table.table-index _ _ _ c.requires (next_at _ c.loop-table.table-index _ _ _ c.loop-table.invariant.left c.in-Some.ensures.items) there there in
+    (c.type_bounds.send-T-Records, (c.type_bounds.send-T-Rows, (c.type_bounds.sync-T-Records, (c.type_bounds.sync-T-Rows, room))))
 
 pub loop-table-preserved : goal.loop-table-preserved
 loop-table-preserved g c =

@@ -3,4 +3,4 @@ use Rattle.indexed_records.proofs.Walks.{Walked}
 use Rattle.indexed_records.proofs.growing.remove_in.Given as goal
 
 abbrev pub invariant-loop-place : goal.invariant-loop-place
-invariant-loop-place g l = Walked Removes l.rows.items l.fn.tables l.tables l.place
+invariant-loop-place g l = Walked Removes l.rows l.fn.tables l.tables l.place

@@ -1,6 +1,6 @@
-use Rattle.std.proofs.Common.{[], arith}
+use Rattle.std.proofs.Common.{[], ◌∙◌, sym, arith}
 use Rattle.std.proofs.lemmas.Option.{slice_get_within}
-use Rattle.indexed_records.proofs.Members.{first_of_all, first_open, first_closed, first_between}
+use Rattle.indexed_records.proofs.Members.{first_of_all, first_of_none, first_open, first_closed, first_between}
 use Rattle.indexed_records.proofs.reading.first_record.Goals as goal
 
 pub overflow_add-result : goal.overflow_add-result
@@ -9,11 +9,14 @@ overflow_add-result g c = omega (arith, slice_get_within (g.R.OrderedTable.entri
 pub returns-in_default : goal.returns-in_default
 returns-in_default g c = rw c.in_default.is (first_of_all _)
 
+pub returns-then-len-eq0 : goal.returns-then-len-eq0
+returns-then-len-eq0 g c = first_of_none _ [] _ (g.met.R.OrderedTable.rises c.args.records.now) (sym c.len.ensures.value ∙ c.if-len-eq0.true)
+
 pub returns-then-lower_open : goal.returns-then-lower_open
-returns-then-lower_open g c = rw c.in-Some.is (first_open c.in-Some.key.now c.args.lower_open _ [] _ c.if-lower_open.true c.len.ensures.sorted c.in-Ok.ensures.found)
+returns-then-lower_open g c = rw c.in-Some.is (first_open c.in-Some.key.now c.args.lower_open _ [] _ c.if-lower_open.true (g.met.R.OrderedTable.rises c.args.records.now) c.in-Ok.ensures.found)
 
 pub returns-else-lower_open : goal.returns-else-lower_open
-returns-else-lower_open g c = rw c.in-Some.is (first_closed c.in-Some.key.now c.args.lower_open _ [] _ c.if-lower_open.false c.len.ensures.sorted c.in-Ok.ensures.found)
+returns-else-lower_open g c = rw c.in-Some.is (first_closed c.in-Some.key.now c.args.lower_open _ [] _ c.if-lower_open.false (g.met.R.OrderedTable.rises c.args.records.now) c.in-Ok.ensures.found)
 
 pub returns-in-Err : goal.returns-in-Err
-returns-in-Err g c = rw c.in-Some.is (first_between c.in-Some.key.now c.args.lower_open _ [] _ c.len.ensures.sorted c.in-Err.ensures.absent)
+returns-in-Err g c = rw c.in-Some.is (first_between c.in-Some.key.now c.args.lower_open _ [] _ (g.met.R.OrderedTable.rises c.args.records.now) c.in-Err.ensures.absent)

@@ -7,7 +7,7 @@ use Rattle.indexed_records.proofs.Members.{shown_get}
 use Rattle.indexed_records.proofs.reading.record_shown.Goals as goal
 
 pub returns-in-Some : goal.returns-in-Some
-returns-in-Some g c = ap (option_map (λ (e : Key × Value). (key_tree_of e.0, key_tree_of e.0))) c.in-Some.ensures ∙ shown_get _ [] c.args.place c.len.ensures.sorted
+returns-in-Some g c = ap (option_map (λ (e : Key × Value). (key_tree_of e.0, key_tree_of e.0))) c.in-Some.ensures ∙ shown_get _ [] c.args.place (g.met.R.OrderedTable.rises c.args.records.now)
 
 pub returns-in-None : goal.returns-in-None
-returns-in-None g c = ap (option_map (λ (e : Key × Value). (key_tree_of e.0, key_tree_of e.0))) c.in-None.ensures ∙ shown_get _ [] c.args.place c.len.ensures.sorted
+returns-in-None g c = ap (option_map (λ (e : Key × Value). (key_tree_of e.0, key_tree_of e.0))) c.in-None.ensures ∙ shown_get _ [] c.args.place (g.met.R.OrderedTable.rises c.args.records.now)

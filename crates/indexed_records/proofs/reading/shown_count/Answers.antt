@@ -1,12 +1,12 @@
 use Rattle.std.proofs.Common.{◌∙◌, sym, ap, length}
-use Rattle.indexed_records.proofs.Members.{row_count, shown_length, shown_table, shown_none}
+use Rattle.indexed_records.proofs.Members.{row_count, shown_table, shown_none}
 use Rattle.indexed_records.proofs.reading.shown_count.Goals as goal
 
 pub returns-in-Store : goal.returns-in-Store
-returns-in-Store g c = rw c.in-Store.is (c.len.ensures.value ∙ shown_length _ c.args.tables.now.items c.len.ensures.sorted)
+returns-in-Store g c = rw c.in-Store.is c.records_shown.ensures
 
 pub returns-in-Some : goal.returns-in-Some
-returns-in-Some g c = c.len-in-Some.ensures ∙ row_count _ ∙ sym (ap length (shown_table _ c.args.tables.now.items c.args.over _ c.in-Some.table.now c.in-Index.is c.in-Some.ensures))
+returns-in-Some g c = c.len.ensures ∙ row_count _ ∙ sym (ap length (shown_table _ c.args.tables.now.items c.args.over _ c.in-Some.table.now c.in-Index.is c.in-Some.ensures))
 
 pub returns-in-None : goal.returns-in-None
 returns-in-None g c = sym (ap length (shown_none _ c.args.tables.now.items c.args.over _ c.in-Index.is c.in-None.ensures))

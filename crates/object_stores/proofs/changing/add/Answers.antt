@@ -1,25 +1,35 @@
-use Rattle.std.proofs.Common.{rules, sym, ap, ◌∙◌, arith, length, refl}
-use Rattle.object_stores.proofs.Spare.{all_fit, one_list_each, fewer}
-use Rattle.object_stores.proofs.Added.{added_past, added_sound, added_ready}
-use Rattle.object_stores.specs.Undo.{rows_among}
+use Rattle.std.proofs.Common.{sym, ap, ◌∙◌, subst, arith}
 use Rattle.clone_values.specs.View.{key_tree_of, tree_of}
+use Rattle.object_stores.specs.IsStore.{IsStoreContent}
+use Rattle.object_stores.specs.Parts.{content_in, log_in}
+use Rattle.object_stores.specs.declared.changes.Change.TheVariants as change
+use Rattle.object_stores.specs.declared.changes.Parts.{Parts}
+use Rattle.object_stores.proofs.Logged.{sound_pushed, past_pushed, fine_now}
+use Rattle.object_stores.proofs.Back.{added_back, added_can}
+use Rattle.object_stores.proofs.Fine.{fine_insert}
 use Rattle.object_stores.proofs.changing.add.Goals as goal
 
-pub put_in-requires-clause-rooms : goal.put_in-requires-clause-rooms
-put_in-requires-clause-rooms g c =
-    let lengths = ap length c.requires.rows ∙ one_list_each _ _ _ in
-    all_fit c.args.rows.items c.args.parts.now.contents.row_spares (omega (arith, lengths, c.requires.ready.complete)) (fewer _ _ c.args.parts.now.contents.row_spares (omega arith) c.requires.ready.rows)
+pub put_at-requires-clause-rooms : goal.put_at-requires-clause-rooms
+put_at-requires-clause-rooms g c = omega (arith, c.requires.ready.rows)
 
 pub returns-clause-sound : goal.returns-clause-sound
 returns-clause-sound g c =
-    added_sound c.args.parts.now _ (key_tree_of c.args.key) (tree_of c.args.value) c.args.key_copy c.args.rows_copy c.args.rows.items c.note.ensures.items c.requires.key c.requires.copy c.requires.rows c.requires.absent c.put_in.ensures.info c.put_in.ensures.records
-    c.put_in.ensures.complete c.put_in.ensures.spare c.put_in.ensures.spares c.requires.sound c.requires.ready c.requires.unique refl refl
+    let old = c.args.parts.now in
+    let k = key_tree_of c.args.key in
+    let v = tree_of c.args.value in
+    let same = ap key_tree_of c.requires.key in
+    let e = c.put_at.ensures in
+    let fine = fine_now (log_in old) (content_in old) c.requires.sound.undo in
+    sound_pushed (change.Added c.args.key_copy c.args.rows_copy) old _ c.note.ensures.items
+    (added_back (content_in old) _ k v e.info e.records _ same c.requires.gap.absent) c.requires.sound
+    (subst IsStoreContent (λ i. record { info = sym e.info i; records = sym e.records i }) (fine_insert (content_in old) fine k v c.requires.fits c.requires.unique))
+    (added_can (content_in old) _ k v e.info e.records _ same c.args.rows_copy (c.requires.copy ∙ c.requires.rows))
+    (omega (arith, c.requires.ready.records, e.spare), omega (arith, c.requires.ready.rows, e.row_spare))
+    c.requires.sound.kept c.requires.sound.removed c.requires.sound.rows
 
 pub returns-clause-past : goal.returns-clause-past
 returns-clause-past g c =
-    added_past c.args.parts.now (record { contents = c.put_in.new.self; log = c.note.new.log; removed = c.args.parts.now.removed; rows = c.args.parts.now.rows }) (key_tree_of c.args.key) (tree_of c.args.value) c.args.key_copy c.args.rows_copy c.args.rows.items c.note.ensures.items c.requires.key c.requires.copy c.requires.rows c.requires.absent c.put_in.ensures.info c.put_in.ensures.records
-
-pub returns-clause-ready : goal.returns-clause-ready
-returns-clause-ready g c changes records more ready =
-    added_ready c.args.parts.now _ (key_tree_of c.args.key) (tree_of c.args.value) c.args.key_copy c.args.rows_copy c.args.rows.items c.note.ensures.items c.requires.key c.requires.copy c.requires.rows c.requires.absent c.put_in.ensures.info c.put_in.ensures.records
-    c.put_in.ensures.complete c.put_in.ensures.spare c.put_in.ensures.spares c.note.ensures.capacity changes records more ready
+    let old = c.args.parts.now in
+    let e = c.put_at.ensures in
+    past_pushed (change.Added c.args.key_copy c.args.rows_copy) old (record { contents = c.put_at.new.self; log = c.note.new.log; removed = old.removed; rows = old.rows }) c.note.ensures.items
+    (added_back (content_in old) _ (key_tree_of c.args.key) (tree_of c.args.value) e.info e.records _ (ap key_tree_of c.requires.key) c.requires.gap.absent)

@@ -18,7 +18,7 @@ returns-then-start-past-clause-deleted g c =
 pub take_at-requires-clause-within : goal.take_at-requires-clause-within
 take_at-requires-clause-within g c =
     let records = c.loop-start.parts.contents.records in
-    last_within records c.span-start.result.0 c.span-start.result.1 c.span-start.ensures.order c.if-start-past.false c.span-start.ensures.within
+    λ κs h. last_within records c.span-start.result.0 c.span-start.result.1 c.span-start.ensures.order c.if-start-past.false c.span-start.ensures.within
 
 pub loop-start-preserved : goal.loop-start-preserved
 loop-start-preserved g c =

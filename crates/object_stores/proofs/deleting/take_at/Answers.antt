@@ -1,12 +1,5 @@
-use Rattle.std.proofs.Common.{[], ◌∷◌, ◌++◌, ◌∙◌}
-use Rattle.object_stores.specs.Parts.{content_in, past_in}
-use Rattle.object_stores.proofs.Logged.{past_again}
-use Rattle.object_stores.proofs.Past.{keeps_pushed}
+use Rattle.object_stores.proofs.ChangeLemmas.{keeps_logged}
 use Rattle.object_stores.proofs.deleting.take_at.Goals as goal
 
 pub returns-clause-past : goal.returns-clause-past
-returns-clause-past g c =
-    let old = c.args.parts.now in
-    let content = c.ready.ensures.content in
-    let past = past_again old c.ready.new.parts c.ready.ensures.log content in
-    keeps_pushed (past_in old) (past_in c.remove.new.parts) (content_in old) (content_in c.remove.new.parts) (c.remove.ensures.past ∙ (λ i. past i ++ content i ∷ []))
+returns-clause-past g c = keeps_logged c.args.parts.now c.ready.new.parts c.remove.new.parts c.ready.ensures.log c.ready.ensures.content c.remove.ensures.past

@@ -1,15 +1,13 @@
-use Rattle.std.proofs.Common.{[], ◌∷◌, ◌++◌, ◌∙◌}
-use Rattle.object_stores.specs.Parts.{content_in, log_in, past_in}
-use Rattle.object_stores.proofs.Logged.{fine_now, past_again}
-use Rattle.object_stores.proofs.Past.{keeps_pushed}
+use Rattle.object_stores.specs.Parts.{content_in, log_in}
+use Rattle.object_stores.proofs.Logged.{fine_now}
+use Rattle.object_stores.proofs.ChangeLemmas.{keeps_logged}
 use Rattle.object_stores.proofs.putting.put_new.Goals as goal
 
-pub clashes-requires-clause-unique : goal.clashes-requires-clause-unique
-clashes-requires-clause-unique g c = let parts = c.ready.new.parts in fine_now (log_in parts) (content_in parts) c.ready.ensures.sound.undo
+pub clashes-requires : goal.clashes-requires
+clashes-requires g c =
+    let parts = c.ready.new.parts in
+    let unique = (fine_now (log_in parts) (content_in parts) c.ready.ensures.sound.undo).unique in
+    (c.type_bounds.send-T-Records, (c.type_bounds.send-T-Rows, (c.type_bounds.sync-T-Records, (c.type_bounds.sync-T-Rows, unique))))
 
 pub returns-clause-past : goal.returns-clause-past
-returns-clause-past g c =
-    let old = c.args.parts.now in
-    let content = c.ready.ensures.content in
-    let past = past_again old c.ready.new.parts c.ready.ensures.log content in
-    keeps_pushed (past_in old) (past_in c.add.new.parts) (content_in old) (content_in c.add.new.parts) (c.add.ensures.past ∙ (λ i. past i ++ content i ∷ []))
+returns-clause-past g c = keeps_logged c.args.parts.now c.ready.new.parts c.add.new.parts c.ready.ensures.log c.ready.ensures.content c.add.ensures.past

@@ -1,0 +1,10 @@
+use Rattle.std.proofs.Common.{◌≡◌, ◌≤◌, refl, subst}
+use Rattle.index_tables.specs.Rows.{IndexRows}
+use Rattle.indexed_records.specs.Taken.{DroppedIndex}
+use Rattle.indexed_records.specs.Walks.{IsInserted}
+use Rattle.indexed_records.proofs.dropping.insert_both.Goals as goal
+
+pub returns-clause-tables : goal.returns-clause-tables
+returns-clause-tables g c =
+    subst (λ (d : DroppedIndex). (t : IndexRows) × (t.rows ≡ d.rows) × (d.spare ≤ t.spare) × IsInserted d.place t c.args.tables.now.items c.inserted.result.items) c.dropped.view_is
+    (c.dropped.inside.table, refl, c.dropped.invariant.4, subst (λ (ts : _). IsInserted c.dropped.inside.place c.dropped.inside.table ts.items c.inserted.result.items) c.replace-2.ensures.value c.inserted.ensures)

@@ -1,0 +1,16 @@
+use Rattle.std.proofs.Common.{◌≡◌, ◌-◌, ◌≤◌, ◌++◌, List, length}
+use Rattle.std.specs.List.{AllByRecursion}
+use Rattle.std.specs.Vec.{vec_capacity}
+use Rattle.index_tables.specs.Rows.{IndexRows, no_rows}
+use Rattle.indexed_records.proofs.Walks.{FilledOn}
+use Rattle.indexed_records.proofs.growing.fill.Given as goal
+
+-- tables without rows came at the end, at most as many as are missing
+abbrev pub invariant-loop-alloc : goal.invariant-loop-alloc
+invariant-loop-alloc g l = record {
+  filled : FilledOn l.count l.fn.tables.items l.tables.items;
+  capacity : vec_capacity l.fn.tables ≤ vec_capacity l.tables;
+}
+
+abbrev pub decreases-loop-alloc : goal.decreases-loop-alloc
+decreases-loop-alloc g l = l.count - length l.tables.items

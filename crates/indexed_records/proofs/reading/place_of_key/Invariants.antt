@@ -1,4 +1,0 @@
-use Rattle.indexed_records.proofs.reading.place_of_key.Given as goal
-
-abbrev pub ghosts-place_by : goal.ghosts-place_by
-ghosts-place_by g a = record { name = a.blank.name; parts = a.blank.parts }
