@@ -1,5 +1,6 @@
 // The tables that the stores of the program are made of.
 #![tactic(auto)]
+
 ghost use Rattle.std.specs.Prelude.{◌≡◌, []};
 
 use clone_values::{Key, Value};
