@@ -35,9 +35,17 @@ false_from true f = absurd (f refl)
 false_from false f = refl
 
 -- a member does not lie beyond one that it is, or that stands behind it
-not_beyond : (m r : RowTree) → (r ≡ m) ⊎ (row_cmp r m ≡ Less) → is_lt (row_cmp m r) ≡ false
+pub not_beyond : (m r : RowTree) → (r ≡ m) ⊎ (row_cmp r m ≡ Less) → is_lt (row_cmp m r) ≡ false
 not_beyond m r (inl same) = ap (λ k. is_lt (row_cmp m k)) same ∙ ap is_lt (tied_itself row_cmp_total m)
 not_beyond m r (inr less) = ap is_lt (row_cmp_total.antisymm m r ∙ ap ordering_reverse less)
+
+-- a member does not lie beyond one that stands before it, the other way
+pub not_back : (m r : RowTree) → (m ≡ r) ⊎ (row_cmp m r ≡ Less) → is_lt (ordering_reverse (row_cmp m r)) ≡ false
+not_back m r (inl same) = ap (λ k. is_lt (ordering_reverse (row_cmp m k))) (sym same) ∙ ap (λ o. is_lt (ordering_reverse o)) (tied_itself row_cmp_total m)
+not_back m r (inr less) = ap (λ o. is_lt (ordering_reverse o)) less
+
+pub passed_back : (m r : RowTree) → row_cmp r m ≡ Less → is_lt (ordering_reverse (row_cmp m r)) ≡ true
+passed_back m r less = ap is_lt (backward false r m less refl)
 
 -- what a turn asked of a member that it took, but for the place
 pub record Took (direction : Direction) (range : Range) (key primary : Option KeyTree) (rows : List RowTree) (place : ℕ) : Type 0 where
@@ -117,14 +125,6 @@ module _ (rows : List RowTree) (rising : AreRising rows) (range : Range) (key pr
   -- ---- prev
   asked_prev : (t : Option RowTree) (m : RowTree) → is_passed Prev t m ≡ false → is_near (onto Prev t) m ≡ false
   asked_prev t m e = ap (λ b. b && (is_reached Prev key primary m && begins Prev range m.0)) e
-
-  -- a member does not lie beyond one that stands before it, the other way
-  not_back : (m r : RowTree) → (m ≡ r) ⊎ (row_cmp m r ≡ Less) → is_lt (ordering_reverse (row_cmp m r)) ≡ false
-  not_back m r (inl same) = ap (λ k. is_lt (ordering_reverse (row_cmp m k))) (sym same) ∙ ap (λ o. is_lt (ordering_reverse o)) (tied_itself row_cmp_total m)
-  not_back m r (inr less) = ap (λ o. is_lt (ordering_reverse o)) less
-
-  passed_back : (m r : RowTree) → row_cmp r m ≡ Less → is_lt (ordering_reverse (row_cmp m r)) ≡ true
-  passed_back m r less = ap is_lt (backward false r m less refl)
 
   near_prev : (p : ℕ) (t : Took Prev range key primary rows p) (k : ℕ) (m : RowTree) → k < p → slice_get rows k ≡ Some m → is_near (onto Prev (Some t.member)) m ≡ true
   near_prev p t k m lt at =
