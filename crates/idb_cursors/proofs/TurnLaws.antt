@@ -3,25 +3,25 @@
 --     never_back              after so many turns it lies beyond the place from which they began
 --     in_store                of members that have one key twice
 --     greatest_key, first_of_its_key      what prevunique takes
-use Rattle.std.proofs.Common.{◌≡◌, ℕ, zero, suc, ◌<◌, ◌≤◌, Bool, true, false, if◌then◌else◌, List, [], ◌∷◌, length, Option, Some, None, arith, refl, sym, ap, ◌∙◌, subst}
-use Rattle.std.specs.Prelude.{not, ◌&&◌, slice_get}
+use Rattle.std.proofs.Common.{◌≡◌, ℕ, zero, suc, ◌≤◌, Bool, true, false, if◌then◌else◌, List, Option, Some, None, refl, sym, ap, ◌∙◌}
+use Rattle.std.specs.Prelude.{◌&&◌, slice_get}
 use Rattle.std.specs.List.{position}
 use Rattle.std.specs.Option.{option_and_then}
 use Rattle.std.specs.declared.cmp.Ordering.{Ordering}
 use Rattle.std.specs.declared.cmp.Ordering.TheVariants.{Less, Equal, Greater}
-use Rattle.std.specs.Ordering.{is_eq, is_lt, is_le, ordering_reverse, ordering_then}
+use Rattle.std.specs.Ordering.{is_eq, is_lt, is_le, ordering_then}
 use Rattle.std.proofs.lemmas.Cmp.{tied_itself}
-use mathlib.Core.Logic.{◌⊎◌, inl, inr}
+use mathlib.Core.Logic.{inl, inr}
 use Rattle.clone_values.specs.KeyTree.{KeyTree}
 use Rattle.key_order.specs.KeyOrder.{key_cmp}
 use Rattle.key_order.proofs.Laws.{key_cmp_total, key_cmp_same}
 use Rattle.idb_keys.specs.declared.names.Direction.{Direction}
 use Rattle.idb_keys.specs.declared.names.Direction.TheVariants.{Next, NextUnique, Prev, PrevUnique}
 use Rattle.idb_keys.specs.KeyRange.{includes}
-use Rattle.index_tables.specs.Rows.{RowTree, row_cmp}
+use Rattle.index_tables.specs.Rows.{RowTree}
 use Rattle.idb_cursors.specs.Cursors.{TurnData, is_forward, is_unique, toward, is_reached, is_passed, meets, last_position, first_of_key, place_by, next_place, turn_from, turns_from, iterated, key_beyond, row_beyond}
 use Rattle.idb_cursors.specs.Views.{AreRising}
-use Rattle.idb_cursors.proofs.Directions.{by_way, key_way, row_way, row_after}
+use Rattle.idb_cursors.proofs.Directions.{key_way, row_way, row_after}
 use Rattle.idb_cursors.proofs.Positions.{first_is, first_before, last_is, last_after}
 use Rattle.idb_cursors.proofs.Nearest.{apart, nearer, one_row}
 
@@ -81,8 +81,14 @@ last_of rows turn place e =
     let outer = joined (last_position (meets turn) rows) (first_of_key rows) place e in
     let there = last_is (meets turn) rows outer.0 outer.1 in
     let inner = joined (slice_get rows outer.0) (λ found. position (λ row. is_eq (key_cmp row.0 found.0)) rows) place outer.2 in
-    record { last = outer.0; greatest = inner.0; ends_there = outer.1; stands = inner.1;
-      meets_there = ap (meets turn) (same_member rows outer.0 inner.0 there.0 inner.1 there.1) ∙ there.2; first = inner.2 }
+    record {
+      last = outer.0;
+      greatest = inner.0;
+      ends_there = outer.1;
+      stands = inner.1;
+      meets_there = ap (meets turn) (same_member rows outer.0 inner.0 there.0 inner.1 there.1) ∙ there.2;
+      first = inner.2;
+    }
 
 key_of_first : (rows : List RowTree) (turn : TurnData) (place : ℕ) (member : RowTree) (t : LastOf rows turn place) → slice_get rows place ≡ Some member → member.0 ≡ t.greatest.0
 key_of_first rows turn place member t at =
@@ -158,9 +164,9 @@ greatest_key rows turn place other member row rising is e at there met =
     ap (λ k. is_le (key_cmp row.0 k)) (key_of_first rows turn place member t at) ∙ elim (apart t.last other) [
       | inl past ↦ absurd (let fails : meets turn row ≡ false = last_after (meets turn) rows t.last t.ends_there other row past there in cc)
       | inr le ↦ elim (nearer other t.last le) [
-          | inl same ↦ ap (λ m. is_le (key_cmp m.0 t.greatest.0)) (one_row rows other t.last row t.greatest same there t.stands) ∙ ap is_le (tied_itself key_cmp_total t.greatest.0)
-          | inr lt ↦ row_after true row t.greatest (rising other t.last row t.greatest lt there t.stands)
-        ]
+        | inl same ↦ ap (λ m. is_le (key_cmp m.0 t.greatest.0)) (one_row rows other t.last row t.greatest same there t.stands) ∙ ap is_le (tied_itself key_cmp_total t.greatest.0)
+        | inr lt ↦ row_after true row t.greatest (rising other t.last row t.greatest lt there t.stands)
+      ]
     ]
   where
     t : LastOf rows turn place

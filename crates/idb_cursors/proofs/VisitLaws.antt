@@ -1,8 +1,8 @@
 -- What a fresh cursor visits over members that do not change.
 --     visits_next, visits_next_unique, visits_prev, visits_prev_unique
-use Rattle.std.proofs.Common.{◌≡◌, ℕ, zero, suc, ◌+◌, ◌-◌, ◌<◌, ◌≤◌, Bool, true, false, if◌then◌else◌, List, [], ◌∷◌, ◌++◌, length, take, drop, filter, get_or, Option, Some, None, option_map, unwrap_or, arith, refl, sym, ap, ◌∙◌, subst}
-use Rattle.std.specs.Prelude.{not, ◌&&◌, slice_get, reverse}
-use Rattle.std.specs.List.{position, AllByRecursion}
+use Rattle.std.proofs.Common.{◌≡◌, ℕ, zero, suc, ◌+◌, ◌-◌, ◌<◌, ◌≤◌, Bool, true, false, if◌then◌else◌, List, [], ◌∷◌, ◌++◌, length, take, drop, filter, Option, Some, None, arith, refl, sym, ap, ◌∙◌}
+use Rattle.std.specs.Prelude.{◌&&◌, slice_get, reverse}
+use Rattle.std.specs.List.{AllByRecursion}
 use Rattle.std.specs.Option.{option_and_then}
 use Rattle.std.specs.declared.cmp.Ordering.{Ordering}
 use Rattle.std.specs.declared.cmp.Ordering.TheVariants.{Less, Equal, Greater}
@@ -19,10 +19,9 @@ use Rattle.idb_keys.specs.declared.names.Direction.{Direction}
 use Rattle.idb_keys.specs.declared.names.Direction.TheVariants.{Next, NextUnique, Prev, PrevUnique}
 use Rattle.idb_keys.specs.KeyRange.{Range, includes}
 use Rattle.index_tables.specs.Rows.{RowTree, row_cmp}
-use Rattle.index_tables.specs.Orders.{row_cmp_total}
-use Rattle.idb_cursors.specs.Cursors.{TurnData, is_passed, meets, last_position, first_of_key, next_place, turn_from}
+use Rattle.idb_cursors.specs.Cursors.{TurnData, is_passed, meets, last_position, first_of_key, next_place}
 use Rattle.idb_cursors.specs.Views.{AreRising}
-use Rattle.idb_cursors.specs.Visits.{first_turn, visits, visited, selected, firsts_after, firsts_of_keys}
+use Rattle.idb_cursors.specs.Visits.{visits, visited, selected, firsts_after, firsts_of_keys}
 use Rattle.idb_cursors.proofs.Directions.{row_after}
 use Rattle.idb_cursors.proofs.Positions.{first_found, first_none, last_found, last_none}
 use Rattle.idb_cursors.proofs.Nearest.{nearer, one_row}
@@ -240,8 +239,8 @@ module _ (rows : List RowTree) (rising : AreRising rows) (range : Range) where
   next_step left k m at again true e (suc n) place enough before behind =
       takes rows (going Next place) n k m (first_found (meets (going Next place)) rows k m at (meets_both Next place m e (behind k m (omega arith) at)) before) at
       ∙ ap (λ r. m ∷ r) (again n (Some m) (omega (arith, enough))
-        (λ i r lt there. not_passed Next (Some m) r (not_beyond m r (before_or_there k m at i r (omega (arith, lt)) there)))
-        (λ i r le there. ap is_lt (rising k i m r (omega (arith, le)) at there)))
+      (λ i r lt there. not_passed Next (Some m) r (not_beyond m r (before_or_there k m at i r (omega (arith, lt)) there)))
+      (λ i r le there. ap is_lt (rising k i m r (omega (arith, le)) at there)))
       ∙ sym (taken_list k m at e)
   next_step left k m at again false e (suc n) place enough before behind =
       again (suc n) place (omega (arith, enough)) (one_more (going Next place) k m at before (out_of_range Next place m e)) (λ i r le there. behind i r (omega (arith, le)) there)
@@ -290,8 +289,8 @@ module _ (rows : List RowTree) (rising : AreRising rows) (range : Range) where
   unique_step left k m at again true e (suc n) place true f enough before behind =
       takes rows (going NextUnique place) n k m (first_found (meets (going NextUnique place)) rows k m at (meets_both NextUnique place m e f) before) at
       ∙ ap (λ r. m ∷ r) (again n (Some m) (omega (arith, enough))
-        (λ i r lt there. not_passed NextUnique (Some m) r (ap is_lt (sym (key_turned r.0 m.0)) ∙ not_lt _ (key_le r m (before_or_there k m at i r (omega (arith, lt)) there))))
-        (λ i r le there. row_after true m r (rising k i m r (omega (arith, le)) at there)))
+      (λ i r lt there. not_passed NextUnique (Some m) r (ap is_lt (sym (key_turned r.0 m.0)) ∙ not_lt _ (key_le r m (before_or_there k m at i r (omega (arith, lt)) there))))
+      (λ i r le there. row_after true m r (rising k i m r (omega (arith, le)) at there)))
       ∙ sym (first_new place m _ f)
       ∙ ap (firsts_from place) (sym (taken_list k m at e))
   unique_step left k m at again true e (suc n) place false f enough before behind =
@@ -329,8 +328,8 @@ module _ (rows : List RowTree) (rising : AreRising rows) (range : Range) where
   prev_step k m at again true e (suc n) place enough after before =
       takes rows (going Prev place) n k m (last_found (meets (going Prev place)) rows k m at (meets_both Prev place m e (before k m (omega arith) at)) (λ i r lt there. after i r (omega (arith, lt)) there)) at
       ∙ ap (λ r. m ∷ r) (again n (Some m) (omega (arith, enough))
-        (λ i r le there. not_passed Prev (Some m) r (not_back m r (before_or_there i r there k m le at)))
-        (λ i r lt there. passed_back m r (rising i k r m lt there at)))
+      (λ i r le there. not_passed Prev (Some m) r (not_back m r (before_or_there i r there k m le at)))
+      (λ i r lt there. passed_back m r (rising i k r m lt there at)))
       ∙ sym (ap reverse (taken_front k m at e) ∙ reverse_push (selected range (take k rows)) m)
   prev_step k m at again false e (suc n) place enough after before =
       again (suc n) place (omega (arith, enough)) (one_less (going Prev place) k m at (λ i r lt there. after i r (omega (arith, lt)) there) (out_of_range Prev place m e)) (λ i r lt there. before i r (omega (arith, lt)) there)
@@ -395,11 +394,11 @@ module _ (rows : List RowTree) (rising : AreRising rows) (range : Range) where
       let same : a.0 ≡ m.0 = key_cmp_same a.0 m.0 (equal_from _ first.passes) in
       let new : (i : ℕ) (r : RowTree) → i < f → slice_get rows i ≡ Some r → is_eq (key_cmp r.0 a.0) ≡ false = λ i r lt there. ap (λ j. is_eq (key_cmp r.0 j)) same ∙ first.before i r lt there in
       takes rows (going PrevUnique place) n f a
-        (first_place place k f m a (last_found (meets (going PrevUnique place)) rows k m at (meets_both PrevUnique place m e (before k m (omega arith) at)) (λ i r lt there. after i r (omega (arith, lt)) there)) at first.stands first.passes first.before)
-        first.stands
+      (first_place place k f m a (last_found (meets (going PrevUnique place)) rows k m at (meets_both PrevUnique place m e (before k m (omega arith) at)) (λ i r lt there. after i r (omega (arith, lt)) there)) at first.stands first.passes first.before)
+      first.stands
       ∙ ap (λ r. a ∷ r) (again f first.within n (Some a) (omega (arith, enough, first.within))
-        (λ i r le there. not_passed PrevUnique (Some a) r (not_lt _ (key_le a r (before_or_there i r there f a le first.stands))))
-        (λ i r lt there. ap (λ o. is_lt (ordering_reverse o)) (sym (key_turned r.0 a.0)) ∙ turned_lt _ (less_than _ (row_after true r a (rising i f r a lt there first.stands)) (new i r lt there))))
+      (λ i r le there. not_passed PrevUnique (Some a) r (not_lt _ (key_le a r (before_or_there i r there f a le first.stands))))
+      (λ i r lt there. ap (λ o. is_lt (ordering_reverse o)) (sym (key_turned r.0 a.0)) ∙ turned_lt _ (less_than _ (row_after true r a (rising i f r a lt there first.stands)) (new i r lt there))))
       ∙ sym (ap reverse (key_run (k - f) f k a m (omega (arith, first.within)) first.stands at same e new) ∙ reverse_push (firsts_of_keys (selected range (take f rows))) a)
   prev_unique_step k m at again false e (suc n) place enough after before =
       again k (omega arith) (suc n) place (omega (arith, enough)) (one_less (going PrevUnique place) k m at (λ i r lt there. after i r (omega (arith, lt)) there) (out_of_range PrevUnique place m e)) (λ i r lt there. before i r (omega (arith, lt)) there)

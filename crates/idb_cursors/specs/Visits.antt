@@ -3,7 +3,7 @@
 --     visited               all that it takes, from the first turn on
 --     selected              the members in range
 --     firsts_of_keys        the first member of each key
-use Rattle.std.specs.Prelude.{ℕ, zero, suc, List, [], ◌∷◌, if◌then◌else◌, length, filter, Option, None, Some, option_map, unwrap_or, slice_get}
+use Rattle.std.specs.Prelude.{ℕ, zero, suc, List, [], ◌∷◌, if◌then◌else◌, length, filter, None, option_map, unwrap_or, slice_get}
 use Rattle.std.specs.Option.{option_and_then}
 use Rattle.std.specs.Ordering.{is_eq}
 use Rattle.clone_values.specs.KeyTree.{KeyTree}

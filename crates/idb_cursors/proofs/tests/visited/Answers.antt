@@ -1,4 +1,4 @@
-use Rattle.std.proofs.Common.{◌+◌, ◌*◌, ◌≤◌, arith}
+use Rattle.std.proofs.Common.{arith}
 use Rattle.idb_cursors.proofs.tests.visited.Goals as goal
 
 pub returns-then-is_none : goal.returns-then-is_none
