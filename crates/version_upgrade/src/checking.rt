@@ -58,7 +58,8 @@ fn check_new_index(
     multi: bool,
 ) -> Result<(), ErrorName>
     ensures taken { OnOk result (refusal_of_new_index schema.now store name.now path.now multi ≡ None) }
-    ensures refused { IfErr result (λ e. refusal_of_new_index schema.now store name.now path.now multi ≡ Some e) }
+    ensures refused { IfErr result (λ e.
+        refusal_of_new_index schema.now store name.now path.now multi ≡ Some e) }
 {
     if has_index(schema, store, name) {
         return Err(ErrorName::ConstraintError);
