@@ -2,8 +2,8 @@
 --     row_after               of two members the one after the other has no lesser key
 --     near_on                 a member beyond one that is near is near too
 --     ended_before            a member before one that meets the bound on the other side meets it too
-use Rattle.std.proofs.Common.{◌≡◌, ℕ, Bool, true, false, if◌then◌else◌, Option, Some, None, refl, sym, ap, ◌∙◌}
-use Rattle.std.specs.Prelude.{not, ◌&&◌}
+use Rattle.std.proofs.Common.{◌≡◌, Bool, true, false, if◌then◌else◌, Option, Some, None, refl, sym, ap, ◌∙◌}
+use Rattle.std.specs.Prelude.{◌&&◌}
 use Rattle.std.specs.declared.cmp.Ordering.{Ordering}
 use Rattle.std.specs.declared.cmp.Ordering.TheVariants.{Less, Equal, Greater}
 use Rattle.std.specs.Ordering.{is_lt, is_le, ordering_reverse, ordering_then}
@@ -16,7 +16,7 @@ use Rattle.idb_keys.specs.declared.names.Direction.{Direction}
 use Rattle.idb_keys.specs.KeyRange.{Bound, Range, admits, meets_lower, meets_upper}
 use Rattle.index_tables.specs.Rows.{RowTree, row_cmp}
 use Rattle.index_tables.specs.Orders.{row_cmp_total}
-use Rattle.idb_cursors.specs.Cursors.{TurnData, is_forward, is_unique, toward, is_reached, is_passed}
+use Rattle.idb_cursors.specs.Cursors.{TurnData, is_forward, is_unique, is_reached, is_passed}
 use Rattle.idb_cursors.specs.Seeking.{begins, ends, is_near}
 
 -- ---- an order the other way round

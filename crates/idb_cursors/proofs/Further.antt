@@ -1,11 +1,10 @@
 -- The plain directions take the members one after the other.
 --     forward_further, forward_short, back_further, back_short      so many turns from a member that was taken
 --     plain_within            where it stands
-use Rattle.std.proofs.Common.{◌≡◌, ℕ, zero, suc, ◌+◌, ◌<◌, ◌≤◌, Bool, true, false, if◌then◌else◌, List, [], ◌∷◌, length, Option, Some, None, arith, refl, sym, ap, subst, ◌∙◌}
-use Rattle.std.specs.Prelude.{not, ◌&&◌, slice_get}
+use Rattle.std.proofs.Common.{◌≡◌, ℕ, zero, suc, ◌+◌, ◌<◌, ◌≤◌, Bool, true, false, if◌then◌else◌, List, length, Option, Some, None, arith, refl, sym, ap, subst, ◌∙◌}
+use Rattle.std.specs.Prelude.{◌&&◌, slice_get}
 use Rattle.std.specs.Option.{option_and_then}
-use Rattle.std.specs.declared.cmp.Ordering.{Ordering}
-use Rattle.std.specs.declared.cmp.Ordering.TheVariants.{Less, Equal, Greater}
+use Rattle.std.specs.declared.cmp.Ordering.TheVariants.{Less}
 use Rattle.std.specs.Ordering.{is_lt, ordering_reverse}
 use Rattle.std.proofs.lemmas.Cmp.{tied_itself}
 use Rattle.std.proofs.lemmas.Option.{slice_get_within}
@@ -13,15 +12,15 @@ use mathlib.Core.Logic.{◌⊎◌, inl, inr}
 use Rattle.clone_values.specs.KeyTree.{KeyTree}
 use Rattle.idb_keys.specs.declared.names.Direction.{Direction}
 use Rattle.idb_keys.specs.declared.names.Direction.TheVariants.{Next, NextUnique, Prev, PrevUnique}
-use Rattle.idb_keys.specs.KeyRange.{Range, meets_lower, meets_upper}
+use Rattle.idb_keys.specs.KeyRange.{Range}
 use Rattle.index_tables.specs.Rows.{RowTree, row_cmp}
 use Rattle.index_tables.specs.Orders.{row_cmp_total}
-use Rattle.idb_cursors.specs.Cursors.{TurnData, is_forward, is_unique, is_reached, is_passed, meets, last_position, place_by, next_place, turn_from, turns_from}
+use Rattle.idb_cursors.specs.Cursors.{TurnData, is_forward, is_unique, is_reached, is_passed, meets, place_by, next_place, turns_from}
 use Rattle.idb_cursors.specs.Seeking.{begins, ends, is_near, place_within}
 use Rattle.idb_cursors.specs.Views.{AreRising}
 use Rattle.idb_cursors.proofs.Directions.{reached_on, begins_on, ended_before}
 use Rattle.idb_cursors.proofs.Positions.{first_is, last_is, last_none}
-use Rattle.idb_cursors.proofs.Nearest.{apart, nearer, past, one_row, backward, meets_parts, far_fails, forward_first, back_last}
+use Rattle.idb_cursors.proofs.Nearest.{nearer, past, one_row, backward, meets_parts, far_fails, forward_first, back_last}
 
 both : (a b : Bool) → (a && b) ≡ true → (a ≡ true) × (b ≡ true)
 both true b e = (refl, e)
@@ -35,9 +34,17 @@ false_from true f = absurd (f refl)
 false_from false f = refl
 
 -- a member does not lie beyond one that it is, or that stands behind it
-not_beyond : (m r : RowTree) → (r ≡ m) ⊎ (row_cmp r m ≡ Less) → is_lt (row_cmp m r) ≡ false
+pub not_beyond : (m r : RowTree) → (r ≡ m) ⊎ (row_cmp r m ≡ Less) → is_lt (row_cmp m r) ≡ false
 not_beyond m r (inl same) = ap (λ k. is_lt (row_cmp m k)) same ∙ ap is_lt (tied_itself row_cmp_total m)
 not_beyond m r (inr less) = ap is_lt (row_cmp_total.antisymm m r ∙ ap ordering_reverse less)
+
+-- a member does not lie beyond one that stands before it, the other way
+pub not_back : (m r : RowTree) → (m ≡ r) ⊎ (row_cmp m r ≡ Less) → is_lt (ordering_reverse (row_cmp m r)) ≡ false
+not_back m r (inl same) = ap (λ k. is_lt (ordering_reverse (row_cmp m k))) (sym same) ∙ ap (λ o. is_lt (ordering_reverse o)) (tied_itself row_cmp_total m)
+not_back m r (inr less) = ap (λ o. is_lt (ordering_reverse o)) less
+
+pub passed_back : (m r : RowTree) → row_cmp r m ≡ Less → is_lt (ordering_reverse (row_cmp m r)) ≡ true
+passed_back m r less = ap is_lt (backward false r m less refl)
 
 -- what a turn asked of a member that it took, but for the place
 pub record Took (direction : Direction) (range : Range) (key primary : Option KeyTree) (rows : List RowTree) (place : ℕ) : Type 0 where
@@ -81,7 +88,7 @@ module _ (rows : List RowTree) (rising : AreRising rows) (range : Range) (key pr
   step_next p t = rw t.stands (forward_first rows (onto Next (Some t.member)) rising refl (suc p)
       (λ k m lt at. asked_next (Some t.member) m (not_beyond t.member m (same_or_before t.member p t.stands k m (nearer k p (omega arith)) at)))
       (λ k m le at. let later : row_cmp t.member m ≡ Less = rising p k t.member m (omega arith) t.stands at in
-          and_true _ _ _ (ap is_lt later) (reached_on Next t.member m later key primary t.reached) (begins_on Next t.member m later range t.began)))
+      and_true _ _ _ (ap is_lt later) (reached_on Next t.member m later key primary t.reached) (begins_on Next t.member m later range t.began)))
 
   took_next : (p : ℕ) → Took Next range key primary rows p → (m : RowTree) → slice_get rows (suc p) ≡ Some m → ends Next range m.0 ≡ true → Took Next range key primary rows (suc p)
   took_next p t m at e =
@@ -109,6 +116,7 @@ module _ (rows : List RowTree) (rising : AreRising rows) (range : Range) (key pr
           rw (← step_next p t, ended_there Next (suc p) m at e, one) (again (took_next p t m at e))
       by_end again m at false e =
           rw (← step_next p t, not_ended Next (suc p) m at e) (stops (suc p) (p + suc more) m at e (nearer (suc p) (p + suc more) (omega arith)) (slice_get rows (p + suc more)) refl)
+
       by_next : (Took Next range key primary rows (suc p) → if_ended Next (suc p + more) (slice_get rows (suc p + more)) ≡ turns_from rows (onto Next turn) more (suc p)) → (found : Option RowTree) → slice_get rows (suc p) ≡ found
           → if_ended Next (p + suc more) (slice_get rows (p + suc more)) ≡ option_and_then (turns_from rows (onto Next turn) more) (next_place rows (onto Next (slice_get rows p)))
       by_next again None at = rw (← step_next p t, at) (ended_out (suc p) (p + suc more) at (omega arith) (slice_get rows (p + suc more)) refl)
@@ -117,14 +125,6 @@ module _ (rows : List RowTree) (rising : AreRising rows) (range : Range) (key pr
   -- ---- prev
   asked_prev : (t : Option RowTree) (m : RowTree) → is_passed Prev t m ≡ false → is_near (onto Prev t) m ≡ false
   asked_prev t m e = ap (λ b. b && (is_reached Prev key primary m && begins Prev range m.0)) e
-
-  -- a member does not lie beyond one that stands before it, the other way
-  not_back : (m r : RowTree) → (m ≡ r) ⊎ (row_cmp m r ≡ Less) → is_lt (ordering_reverse (row_cmp m r)) ≡ false
-  not_back m r (inl same) = ap (λ k. is_lt (ordering_reverse (row_cmp m k))) (sym same) ∙ ap (λ o. is_lt (ordering_reverse o)) (tied_itself row_cmp_total m)
-  not_back m r (inr less) = ap (λ o. is_lt (ordering_reverse o)) less
-
-  passed_back : (m r : RowTree) → row_cmp r m ≡ Less → is_lt (ordering_reverse (row_cmp m r)) ≡ true
-  passed_back m r less = ap is_lt (backward false r m less refl)
 
   near_prev : (p : ℕ) (t : Took Prev range key primary rows p) (k : ℕ) (m : RowTree) → k < p → slice_get rows k ≡ Some m → is_near (onto Prev (Some t.member)) m ≡ true
   near_prev p t k m lt at =
@@ -167,6 +167,7 @@ module _ (rows : List RowTree) (rising : AreRising rows) (range : Range) (key pr
           → if_ended Prev last (slice_get rows last) ≡ option_and_then (turns_from rows (onto Prev turn) more) (next_place rows (onto Prev (slice_get rows (suc p))))
       by_end again m at true e = rw (← step_prev p t, ended_there Prev p m at e) (again (took_prev p t m at e))
       by_end again m at false e = rw (← step_prev p t, not_ended Prev p m at e) (stops_back p last m at e (nearer last p (omega (arith, sum))) (slice_get rows last) refl)
+
       by_next : (Took Prev range key primary rows p → if_ended Prev last (slice_get rows last) ≡ turns_from rows (onto Prev turn) more p) → (found : Option RowTree) → slice_get rows p ≡ found
           → if_ended Prev last (slice_get rows last) ≡ option_and_then (turns_from rows (onto Prev turn) more) (next_place rows (onto Prev (slice_get rows (suc p))))
       by_next again None at = rw (← step_prev p t, at) (out_back p last at (omega (arith, slice_get_within rows (suc p) t.member t.stands)) (slice_get rows last))
@@ -180,6 +181,7 @@ module _ (rows : List RowTree) (rising : AreRising rows) (range : Range) (key pr
       by_end : (Took Prev range key primary rows p → None ≡ turns_from rows (onto Prev turn) more p) → (m : RowTree) → slice_get rows p ≡ Some m → (b : Bool) → ends Prev range m.0 ≡ b → None ≡ option_and_then (turns_from rows (onto Prev turn) more) (next_place rows (onto Prev (slice_get rows (suc p))))
       by_end again m at true e = rw (← step_prev p t, ended_there Prev p m at e) (again (took_prev p t m at e))
       by_end again m at false e = rw (← step_prev p t, not_ended Prev p m at e) refl
+
       by_next : (Took Prev range key primary rows p → None ≡ turns_from rows (onto Prev turn) more p) → (found : Option RowTree) → slice_get rows p ≡ found → None ≡ option_and_then (turns_from rows (onto Prev turn) more) (next_place rows (onto Prev (slice_get rows (suc p))))
       by_next again None at = rw (← step_prev p t, at) refl
       by_next again (Some m) at = by_end again m at (ends Prev range m.0) refl

@@ -3,3 +3,5 @@ pub mod Directions
 pub mod Further
 pub mod Nearest
 pub mod Positions
+pub mod TurnLaws
+pub mod VisitLaws

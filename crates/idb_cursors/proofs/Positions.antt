@@ -1,13 +1,13 @@
 -- The first and the last member that pass a test.
 --     first_found, first_none, last_found, last_none      from how the members pass
---     first_is, last_is       and back
-use Rattle.std.proofs.Common.{◌≡◌, ℕ, zero, suc, ◌<◌, Bool, true, false, List, [], ◌∷◌, Option, Some, None, option_map, get_or, if◌then◌else◌, arith, refl, ap, ◌∙◌}
+--     first_is, first_before, last_is, last_after      and back
+use Rattle.std.proofs.Common.{◌≡◌, ℕ, zero, suc, ◌<◌, Bool, true, false, List, [], ◌∷◌, Option, Some, None, option_map, get_or, if◌then◌else◌, arith, refl, sym, ap, ◌∙◌}
 use Rattle.std.specs.Prelude.{slice_get}
 use Rattle.std.specs.List.{position}
 use Rattle.std.specs.Option.{option_or}
 use Rattle.std.proofs.lemmas.Grind.{common_steps}
 use Rattle.std.proofs.lemmas.List.Quantifiers.{position-Some}
-use Rattle.std.proofs.lemmas.Option.{slice_get-get_or}
+use Rattle.std.proofs.lemmas.Option.{slice_get-get_or, get_or_from_slice_get}
 use mathlib.Core.Logic.{◌⊎◌, inl, inr}
 use Rattle.idb_cursors.specs.Cursors.{last_position}
 
@@ -38,8 +38,8 @@ module _ {A : Type 0} (test : A → Bool) where
       let here = position-Some test (x ∷ xs) i x e in
       (get_or (x ∷ xs) i x, slice_get-get_or (x ∷ xs) i x here.0, here.1)
 
-  or_first : (rest : Option ℕ) (b : Bool) (i : ℕ) → option_or (option_map suc rest) (if b then Some 0 else None) ≡ Some i → ((j : ℕ) × (rest ≡ Some j) × (i ≡ suc j)) ⊎ ((b ≡ true) × (i ≡ 0))
-  or_first None true i e = inr (refl, cc)
+  or_first : (rest : Option ℕ) (b : Bool) (i : ℕ) → option_or (option_map suc rest) (if b then Some 0 else None) ≡ Some i → ((j : ℕ) × (rest ≡ Some j) × (i ≡ suc j)) ⊎ ((b ≡ true) × (i ≡ 0) × (rest ≡ None))
+  or_first None true i e = inr (refl, cc, refl)
   or_first None false i e = cc
   or_first (Some j) b i e = inl (j, refl, cc)
 
@@ -48,4 +48,27 @@ module _ {A : Type 0} (test : A → Bool) where
   last_is (x ∷ xs) i e = elim (or_first (last_position test xs) (test x) i e) [
     | inl there ↦ (let more = last_is xs there.0 there.1 in (more.0, ap (λ k. slice_get (x ∷ xs) k) there.2 ∙ more.1, more.2))
     | inr here ↦ (x, ap (λ k. slice_get (x ∷ xs) k) here.1, here.0)
+  ]
+
+  pub first_before : (xs : List A) (i : ℕ) → position test xs ≡ Some i → (k : ℕ) (y : A) → k < i → slice_get xs k ≡ Some y → test y ≡ false
+  first_before [] i e k y lt at = cc
+  first_before (x ∷ xs) i e k y lt at =
+      ap test (sym (get_or_from_slice_get (x ∷ xs) k y x at)) ∙ (position-Some test (x ∷ xs) i x e).2 k lt
+
+  none_of_either : (rest : Option ℕ) (b : Bool) → option_or (option_map suc rest) (if b then Some 0 else None) ≡ None → (rest ≡ None) × (b ≡ false)
+  none_of_either None true e = cc
+  none_of_either None false e = (refl, refl)
+  none_of_either (Some j) b e = cc
+
+  pub no_last : (xs : List A) → last_position test xs ≡ None → (k : ℕ) (y : A) → slice_get xs k ≡ Some y → test y ≡ false
+  no_last [] e k y at = cc
+  no_last (x ∷ xs) e zero y at = let same : x ≡ y = cc in ap test (sym same) ∙ (none_of_either (last_position test xs) (test x) e).1
+  no_last (x ∷ xs) e (suc k) y at = no_last xs (none_of_either (last_position test xs) (test x) e).0 k y at
+
+  pub last_after : (xs : List A) (i : ℕ) → last_position test xs ≡ Some i → (k : ℕ) (y : A) → i < k → slice_get xs k ≡ Some y → test y ≡ false
+  last_after [] i e k y lt at = cc
+  last_after (x ∷ xs) i e zero y lt at = absurd (omega (arith, lt))
+  last_after (x ∷ xs) i e (suc k) y lt at = elim (or_first (last_position test xs) (test x) i e) [
+    | inl there ↦ last_after xs there.0 there.1 k y (omega (arith, there.2, lt)) at
+    | inr here ↦ no_last xs here.2 k y at
   ]

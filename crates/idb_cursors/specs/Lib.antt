@@ -2,3 +2,4 @@ pub mod Cursors
 pub mod Seeking
 pub mod View
 pub mod Views
+pub mod Visits

@@ -42,7 +42,7 @@ impl Model for Cursor {
     ghost coded = { Prim.hlevel (codes, range_code, row_code) };
 
     ghost use Rattle.index_tables.specs.Rows.{row_cmp};
-ghost use Rattle.index_tables.specs.View.{row_of};
+    ghost use Rattle.index_tables.specs.View.{row_of};
 
     ghost view = { λ a. record {
       over = a.over;
@@ -55,12 +55,7 @@ ghost use Rattle.index_tables.specs.View.{row_of};
 
 impl Cursor {
     /// A cursor that has taken nothing yet. A range that is left out takes all keys. It takes no memory.
-    pub fn new(
-        over: Over,
-        direction: Direction,
-        range: Option<KeyRange>,
-        keys_only: bool,
-    ) -> Cursor
+    pub fn new(over: Over, direction: Direction, range: Option<KeyRange>, keys_only: bool) -> Cursor
         ensures { result ≡ fresh_cursor over direction (range_given range) keys_only }
     {
         Cursor {

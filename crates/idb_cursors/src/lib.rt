@@ -6,11 +6,13 @@
 #![tactic(auto)]
 
 mod cursor;
+mod cursor_laws;
 mod row_view;
 mod seeking;
 mod turns;
 
 pub use cursor::Cursor;
+pub use cursor_laws::{turn_laws, visit_laws};
 pub use row_view::{RecordsShown, RowView, RowsShown};
 
 #[cfg(test)]

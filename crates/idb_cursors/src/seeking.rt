@@ -61,12 +61,7 @@ pub(crate) fn toward(direction: Direction, order: Ordering) -> Ordering
 }
 
 /// How two keys stand to each other as the direction meets them; one comparison.
-fn compared<L: Ledger>(
-    direction: Direction,
-    a: &Key,
-    b: &Key,
-    steps: &mut Steps<L>,
-) -> Ordering
+fn compared<L: Ledger>(direction: Direction, a: &Key, b: &Key, steps: &mut Steps<L>) -> Ordering
     ensures value { result ≡ toward direction (key_cmp (key_tree_of a.now) (key_tree_of b.now)) }
     ensures counted { steps.new ≡ steps.old + 1 }
 {
@@ -142,12 +137,7 @@ fn begins<L: Ledger>(
     }
 }
 
-fn ends<L: Ledger>(
-    direction: Direction,
-    range: &KeyRange,
-    key: &Key,
-    steps: &mut Steps<L>,
-) -> bool
+fn ends<L: Ledger>(direction: Direction, range: &KeyRange, key: &Key, steps: &mut Steps<L>) -> bool
     ensures value { result ≡ ends direction range.now (key_tree_of key.now) }
     ensures counted { steps.new ≤ steps.old + 1 }
 {
@@ -228,7 +218,11 @@ fn is_behind<R: RowView, L: Ledger>(
     match rows.at(place) {
         Some(member) => {
             let near = is_near(turn, member, steps);
-            if is_forward(turn.direction) { near } else { !near }
+            if is_forward(turn.direction) {
+                near
+            } else {
+                !near
+            }
         }
         None => unreachable!(),
     }

@@ -80,7 +80,8 @@ fn may_take(ask: Ask, forward: bool, unique: bool, row: (i64, i64)) -> bool {
         (Some(given), None) => key == given || is_beyond(forward, given, key),
         (Some(given), Some(other)) => {
             is_beyond(forward, given, key)
-                || (key == given && (unique || primary == other || is_beyond(forward, other, primary)))
+                || (key == given
+                    && (unique || primary == other || is_beyond(forward, other, primary)))
         }
     };
     let passed = match ask.from {
@@ -235,7 +236,10 @@ fn each_direction_visits_its_rows(rt: HostRuntime) -> Result<(), Fail> {
             places(rt.alloc(), &table, direction, count, &mut said)?;
         }
     }
-    assert_eq!(rt; said.as_str(), "0 1 2 . . \n1 . . . . \n2 . . . . \n0 2 . . . \n2 . . . . \n. . . . . \n2 1 0 . . \n1 . . . . \n0 . . . . \n2 0 . . . \n0 . . . . \n. . . . . \n");
+    assert_eq!(rt;
+        said.as_str(),
+        "0 1 2 . . \n1 . . . . \n2 . . . . \n0 2 . . . \n2 . . . . \n. . . . . \n2 1 0 . . \n1 . . . . \n0 . . . . \n2 0 . . . \n0 . . . . \n. . . . . \n"
+    );
     Ok(())
 }
 
@@ -277,7 +281,10 @@ fn visited<R: RowView, L: Ledger>(
     ensures { IfOk result (λ places. steps.new ≤ steps.old + (places + 1) * 190) }
 {
     for places in 0..100_001u32 {
-        if cursor.iterate_counted(alloc, rows, None, None, 1, steps)?.is_none() {
+        if cursor
+            .iterate_counted(alloc, rows, None, None, 1, steps)?
+            .is_none()
+        {
             return Ok(places);
         }
     }

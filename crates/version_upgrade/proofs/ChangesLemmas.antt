@@ -1,12 +1,14 @@
 -- The names of a schema once a call is made.
 --     new_store, dropped_store, new_index, dropped_index      the names that come and go
---     stores_stay             the names of the stores where an index comes or goes
+--     stores_stay_with, stores_stay_without      the names of the stores where an index comes or goes
+--     others_with, others_without      and the indexes of the other stores
 use Rattle.std.proofs.Common.{◌≡◌, ◌≢◌, ℕ, zero, suc, ◌<◌, Bool, true, false, nat_eq, if◌then◌else◌, List, [], ◌∷◌, ◌++◌, map, length, take, drop, slice_get, Option, Some, None, option_map, unwrap_or, arith, refl, sym, ◌∙◌, ap}
-use Rattle.std.specs.Prelude.{not, ◌&&◌, ◌||◌, is_some}
+use Rattle.std.specs.Prelude.{not, ◌&&◌, ◌||◌, ◌==◌, is_some}
 use Rattle.std.specs.Option.{option_and_then}
 use Rattle.std.specs.List.{position, AllByRecursion}
 use Rattle.std.specs.Ordering.{nat_cmp, is_lt}
 use Rattle.std.specs.Cmp.Lexicographic.{slice_cmp, pointwise}
+use Rattle.std.proofs.lemmas.Bool.{eqb-true}
 use Rattle.std.proofs.lemmas.List.Quantifiers.{position-Some}
 use Rattle.std.proofs.lemmas.Option.{slice_get-get_or}
 use Rattle.clone_values.specs.Names.{is_rising}
@@ -158,3 +160,46 @@ module _ (schema : SchemaData) (store : StoreId) (n o : List ℕ) (sound : AreSo
       ≡ (has_index schema store o && not (pointwise nat_eq n o))
   dropped_index None at = let none = nowhere schema store o at in none ∙ ap (λ b. b && not (pointwise nat_eq n o)) (sym none)
   dropped_index (Some place) at = lost place at (index_named (indexes_at schema place) n) refl
+
+-- ---- the other stores
+changed_other : (es : List StoreEntry) (i j : ℕ) (f : StoreEntry → StoreEntry) → i ≢ j → slice_get (change_at es i f) j ≡ slice_get es j
+changed_other [] i j f apart = refl
+changed_other (e ∷ es) zero zero f apart = absurd (apart refl)
+changed_other (e ∷ es) zero (suc j) f apart = refl
+changed_other (e ∷ es) (suc i) zero f apart = refl
+changed_other (e ∷ es) (suc i) (suc j) f apart = changed_other es i j f (λ same. apart (ap suc same))
+
+one_id : (es : List StoreEntry) (m n p : ℕ) → position (λ e. e.id == m) es ≡ Some p → position (λ e. e.id == n) es ≡ Some p → m ≡ n
+one_id [] m n p a b = cc
+one_id (e ∷ es) m n p a b =
+    let here = eqb-true _ _ (position-Some (λ d. d.id == m) (e ∷ es) p e a).1 in
+    let there = eqb-true _ _ (position-Some (λ d. d.id == n) (e ∷ es) p e b).1 in
+    sym here ∙ there
+
+module _ (schema after : SchemaData) (id : StoreId) (p : ℕ) (f : StoreEntry → StoreEntry) (made : after.entries ≡ change_at schema.entries p f) (keeps : place_of after id ≡ place_of schema id) (other : place_of schema id ≢ Some p) where
+  at_other : (found : Option ℕ) → place_of schema id ≡ found → unwrap_or (option_map (indexes_at after) found) [] ≡ unwrap_or (option_map (indexes_at schema) found) []
+  at_other None e = refl
+  at_other (Some q) e =
+      ap (λ d. unwrap_or (option_map (λ k. k.info.indexes) d) [])
+      (ap (λ es. slice_get es q) made ∙ changed_other schema.entries p q f (λ same. other (e ∙ ap Some (sym same))))
+
+  stay : indexes_of after id ≡ indexes_of schema id
+  stay = ap (λ found. unwrap_or (option_map (indexes_at after) found) []) keeps ∙ at_other (place_of schema id) refl
+
+elsewhere : (schema : SchemaData) (store id : StoreId) (p : ℕ) → id ≢ store → place_of schema store ≡ Some p → place_of schema id ≢ Some p
+elsewhere schema store id p apart a b = apart (ap (λ n. record { number = n }) (one_id schema.entries id.number store.number p b a))
+
+pub others_with : (schema : SchemaData) (store id : StoreId) (index : IndexInfo) → id ≢ store → ((place : ℕ) → place_of (with_index schema place index) id ≡ place_of schema id) → (found : Option ℕ) → place_of schema store ≡ found
+    → indexes_of (unwrap_or (option_map (λ place. with_index schema place index) found) schema) id ≡ indexes_of schema id
+others_with schema store id index apart keeps None e = refl
+others_with schema store id index apart keeps (Some p) e = stay schema (with_index schema p index) id p (λ k. entry_with_index k index) refl (keeps p) (elsewhere schema store id p apart e)
+
+gone : (schema : SchemaData) (store id : StoreId) (p : ℕ) → id ≢ store → ((place at : ℕ) → place_of (without_index schema place at) id ≡ place_of schema id) → place_of schema store ≡ Some p → (found : Option ℕ)
+    → indexes_of (unwrap_or (option_map (without_index schema p) found) schema) id ≡ indexes_of schema id
+gone schema store id p apart keeps e None = refl
+gone schema store id p apart keeps e (Some at) = stay schema (without_index schema p at) id p (λ k. entry_without_index k at) refl (keeps p at) (elsewhere schema store id p apart e)
+
+pub others_without : (schema : SchemaData) (store id : StoreId) (n : List ℕ) → id ≢ store → ((place at : ℕ) → place_of (without_index schema place at) id ≡ place_of schema id) → (found : Option ℕ) → place_of schema store ≡ found
+    → indexes_of (unwrap_or (option_and_then (λ place. option_map (without_index schema place) (index_named (indexes_at schema place) n)) found) schema) id ≡ indexes_of schema id
+others_without schema store id n apart keeps None e = refl
+others_without schema store id n apart keeps (Some p) e = gone schema store id p apart keeps e (index_named (indexes_at schema p) n)

@@ -15,8 +15,7 @@ use idb_schema::{change_laws, name_laws as names_of_schemas, sound_laws};
 /// one that it takes; the indexes of other stores stay.
 pub fn name_laws()
     ensures new_store { (schema : SchemaData) (name : List ℕ) (path : Option PathSpec) (auto : Bool)
-        (other : List ℕ)
-        → has_store (schema_after schema (CreateStore name path auto)) other
+        (other : List ℕ) → has_store (schema_after schema (CreateStore name path auto)) other
         ≡ (pointwise nat_eq name other || has_store schema other) }
     ensures dropped_store { (schema : SchemaData) (name other : List ℕ) → IsSchema schema
         → has_store (schema_after schema (DropStore name)) other
@@ -26,8 +25,7 @@ pub fn name_laws()
         → has_index (schema_after schema (CreateIndex store name path unique multi)) store other
         ≡ (pointwise nat_eq name other || has_index schema store other) }
     ensures dropped_index { (schema : SchemaData) (store : StoreId) (name other : List ℕ)
-        → AreSound schema.entries
-        → has_index (schema_after schema (DropIndex store name)) store other
+        → AreSound schema.entries → has_index (schema_after schema (DropIndex store name)) store other
         ≡ (has_index schema store other && not (pointwise nat_eq name other)) }
     ensures stores_after_index { (schema : SchemaData) (store : StoreId) (name : List ℕ) (path : PathSpec)
         (unique multi : Bool) (other : List ℕ)
@@ -35,6 +33,12 @@ pub fn name_laws()
         ≡ has_store schema other }
     ensures stores_after_index_drop { (schema : SchemaData) (store : StoreId) (name other : List ℕ)
         → has_store (schema_after schema (DropIndex store name)) other ≡ has_store schema other }
+    ensures others_after_index { (schema : SchemaData) (store id : StoreId) (name : List ℕ) (path : PathSpec)
+        (unique multi : Bool) → id ≢ store
+        → indexes_of (schema_after schema (CreateIndex store name path unique multi)) id
+        ≡ indexes_of schema id }
+    ensures others_after_index_drop { (schema : SchemaData) (store id : StoreId) (name : List ℕ) → id ≢ store
+        → indexes_of (schema_after schema (DropIndex store name)) id ≡ indexes_of schema id }
 {
     names_of_schemas();
     change_laws();

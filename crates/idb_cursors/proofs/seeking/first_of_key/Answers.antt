@@ -1,4 +1,4 @@
-use Rattle.std.proofs.Common.{◌≡◌, sym}
+use Rattle.std.proofs.Common.{sym}
 use Rattle.idb_cursors.specs.View.{row_shown}
 use Rattle.idb_cursors.proofs.Nearest.{first_by}
 use Rattle.idb_cursors.proofs.seeking.first_of_key.Goals as goal

@@ -1,4 +1,4 @@
-use Rattle.std.proofs.Common.{◌≡◌, ◌∙◌, ◌+◌, ◌-◌, arith, sym, subst}
+use Rattle.std.proofs.Common.{◌∙◌, ◌-◌, arith, sym, subst}
 use Rattle.index_tables.specs.Halves.{IsSplitAt}
 use Rattle.idb_cursors.specs.Seeking.{is_behind}
 use Rattle.idb_cursors.specs.View.{turn_seen}

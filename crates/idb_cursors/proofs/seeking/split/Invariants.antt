@@ -1,4 +1,4 @@
-use Rattle.std.proofs.Common.{◌≡◌, ℕ, ◌+◌, ◌-◌, ◌*◌, ◌^◌, ◌<◌, ◌≤◌, length}
+use Rattle.std.proofs.Common.{ℕ, ◌+◌, ◌-◌, ◌*◌, ◌^◌, ◌<◌, ◌≤◌, length}
 use Rattle.index_tables.specs.Halves.{IsSplitBetween}
 use Rattle.idb_cursors.specs.Seeking.{is_behind}
 use Rattle.idb_cursors.specs.View.{turn_seen}

@@ -1,4 +1,4 @@
-use Rattle.std.proofs.Common.{◌≡◌, ◌∙◌, ◌-◌, arith, sym}
+use Rattle.std.proofs.Common.{◌∙◌, ◌-◌, arith, sym}
 use Rattle.idb_cursors.specs.View.{turn_seen}
 use Rattle.idb_cursors.proofs.Further.{forward_further, forward_short, back_further, back_short, plain_within}
 use Rattle.idb_cursors.proofs.turns.further.Goals as goal

@@ -21,3 +21,9 @@ returns-clause-stores_after_index c = λ schema store name path unique multi oth
 
 pub returns-clause-stores_after_index_drop : goal.returns-clause-stores_after_index_drop
 returns-clause-stores_after_index_drop c = λ schema store name other. laws.stores_stay_without schema name other (place_of schema store)
+
+pub returns-clause-others_after_index : goal.returns-clause-others_after_index
+returns-clause-others_after_index c = λ schema store id name path unique multi apart. laws.others_with schema store id _ apart (λ place. c.change_laws.ensures.place_after_index schema place _ id) (place_of schema store) refl
+
+pub returns-clause-others_after_index_drop : goal.returns-clause-others_after_index_drop
+returns-clause-others_after_index_drop c = λ schema store id name apart. laws.others_without schema store id name apart (λ place at. c.change_laws.ensures.place_after_index_drop schema place at id) (place_of schema store) refl
