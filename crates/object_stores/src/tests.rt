@@ -1,10 +1,11 @@
-ghost use Rattle.std.specs.Prelude.{◌≡◌, true, IfOk};
+ghost use Rattle.std.specs.Prelude.{◌≡◌, true, false, IfOk};
 ghost use Rattle.clone_values.specs.View.{tree_of};
+ghost use Rattle.clone_values.specs.declared.path_types.PathSpec.TheVariants.{One};
 ghost use Rattle.object_stores.specs.Storing.{HasKey, in_line};
 
 use super::*;
 use clone_values::{Key, PathSpec, Props, Text, Value, is_cloneable, is_int, well_formed};
-use idb_base::NoMemory;
+use idb_base::{GREATEST_LENGTH, NoMemory};
 use idb_keys::{KeyRange, Over};
 use idb_schema::{IndexInfo, IndexInfos, StoreInfo};
 use index_tables::FlatTables;
@@ -38,11 +39,18 @@ enum Step {
 }
 
 // ---- stores and values
-fn path(alloc: Global, s: &str) -> Result<KeyPath, Fail> {
+fn path(alloc: Global, s: &str) -> Result<KeyPath, Fail>
+    ensures { IfOk result (λ p. p ≡ One s.now) }
+{
+    if s.len() > GREATEST_LENGTH {
+        Err("a long path")?
+    }
     Ok(KeyPath::parse(PathSpec::One(Text::copy_of(alloc, s)?))?)
 }
 
-fn by_e(alloc: Global, unique: bool) -> Result<IndexInfo, Fail> {
+fn by_e(alloc: Global, unique: bool) -> Result<IndexInfo, Fail>
+    ensures { IfOk result (λ i. i.multi ≡ false) }
+{
     Ok(IndexInfo {
         name: Text::copy_of(alloc, "by e")?,
         path: path(alloc, "e")?,
@@ -365,25 +373,22 @@ fn numbers_are_given(rt: HostRuntime) -> Result<(), Fail> {
     Ok(())
 }
 
-/// A store whose keys stand in the values, by this path.
-fn store_of_path(alloc: Global, s: &str) -> Result<Store, Fail> {
-    let path = path(alloc, s)?;
+/// A store whose keys stand in the values.
+fn store_of_path(alloc: Global) -> Result<Store, Fail> {
+    let path = path(alloc, "e")?;
     let info = StoreInfo {
         name: Text::copy_of(alloc, "s")?,
         path: Some(path),
         auto: true,
         indexes: IndexInfos::new(alloc),
     };
-    if s.is_empty() {
-        Err("no path")?
-    }
     Ok(StoreVersion::new(alloc, info))
 }
 
 /// A key that stands at the path is taken, and a number is put there where none does.
 #[test]
 fn keys_stand_in_values(rt: HostRuntime) -> Result<(), Fail> {
-    let mut store = store_of_path(rt.alloc(), "e")?;
+    let mut store = store_of_path(rt.alloc())?;
     let text = answers(
         &rt,
         rt.alloc(),
