@@ -152,7 +152,11 @@ fn push_members(text: &mut String, store: &Store) -> Result<(), Fail> {
 fn run(alloc: Global, text: &mut String, store: &mut Store, step: Step) -> Result<(), Fail> {
     match step {
         Step::Put(key, value) => {
-            write!(text, "{}", put(store, Key::Number(key), text_value(alloc, value)?)?)?
+            write!(
+                text,
+                "{}",
+                put(store, Key::Number(key), text_value(alloc, value)?)?
+            )?
         }
         Step::Take(key) => write!(text, "{}", take(store, key)?)?,
         Step::AddIndex(unique) => write!(text, "{} ", add_index(alloc, store, unique)?)?,

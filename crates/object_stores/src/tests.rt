@@ -212,7 +212,10 @@ fn run(
         Step::Put(key, e) => push_answer(text, put(store, object(rt, alloc, e)?, key, false)?)?,
         Step::Add(key, e) => push_answer(text, put(store, object(rt, alloc, e)?, key, true)?)?,
         Step::PutNext(e) => push_answer(text, put_alone(alloc, store, object(rt, alloc, e)?)?)?,
-        Step::PutEmpty => push_answer(text, put_alone(alloc, store, Value::Object(Props::new(alloc)))?)?,
+        Step::PutEmpty => push_answer(
+            text,
+            put_alone(alloc, store, Value::Object(Props::new(alloc)))?,
+        )?,
         Step::Delete(low, high) => {
             match KeyRange::bound(Key::Number(low), Key::Number(high), false, false) {
                 Ok(range) => write!(text, "{} gone ", store.delete_range(&range)?)?,
@@ -238,7 +241,12 @@ fn run(
 }
 
 /// What these steps answer, one behind the other.
-fn answers(rt: &impl Abort, alloc: Global, store: &mut Store, steps: &[Step]) -> Result<String, Fail> {
+fn answers(
+    rt: &impl Abort,
+    alloc: Global,
+    store: &mut Store,
+    steps: &[Step],
+) -> Result<String, Fail> {
     let mut text = String::new(alloc);
     let mut marks = Vec::new(alloc);
     for step in steps {
@@ -268,7 +276,10 @@ fn a_unique_index_refuses(rt: HostRuntime) -> Result<(), Fail> {
             Step::Show,
         ],
     )?;
-    assert_eq!(rt; text.as_str(), "0 1 ! ! 1 2 1:1 2:2 | 1:2 2:1 | 3 / 1 ! 1:1 2:2 | 1:2 2:1 | 3 / ");
+    assert_eq!(rt;
+        text.as_str(),
+        "0 1 ! ! 1 2 1:1 2:2 | 1:2 2:1 | 3 / 1 ! 1:1 2:2 | 1:2 2:1 | 3 / "
+    );
     Ok(())
 }
 
@@ -292,7 +303,10 @@ fn an_index_comes_and_goes(rt: HostRuntime) -> Result<(), Fail> {
             Step::Show,
         ],
     )?;
-    assert_eq!(rt; text.as_str(), "1 2 1 0 1:1 2:2 | 1:1 1:2 | 1 / 1 properties - 1:1 2:2 | | 1 / ");
+    assert_eq!(rt;
+        text.as_str(),
+        "1 2 1 0 1:1 2:2 | 1:1 1:2 | 1 / 1 properties - 1:1 2:2 | | 1 / "
+    );
     Ok(())
 }
 
@@ -402,7 +416,10 @@ fn keys_stand_in_values(rt: HostRuntime) -> Result<(), Fail> {
             Step::Show,
         ],
     )?;
-    assert_eq!(rt; text.as_str(), "0 3 4 5 1 properties 3:3 4:4 5:5 | 3:3 4:4 5:5 | 6 / ");
+    assert_eq!(rt;
+        text.as_str(),
+        "0 3 4 5 1 properties 3:3 4:4 5:5 | 3:3 4:4 5:5 | 6 / "
+    );
     Ok(())
 }
 
