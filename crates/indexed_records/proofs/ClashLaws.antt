@@ -223,8 +223,8 @@ clash_breaks_none [] records spare k value h clean = refl
 clash_breaks_none (i ∷ is) records spare k value h clean =
     let parts = or_both _ _ clean in
     clash_breaks_none is records spare k value h.2 parts.1 ∙ ap (λ b. b || is_broken is (finite.insert records k value)) (
-        sym (and_none i.unique (clash_in no_rows k (rows_of_record i k value)) (no_clash k (rows_of_record i k value)))
-        ∙ ap (λ s. i.unique && clash_in s k (rows_of_record i k value)) (sym h.0) ∙ breaks i records k value parts.0)
+    sym (and_none i.unique (clash_in no_rows k (rows_of_record i k value)) (no_clash k (rows_of_record i k value)))
+    ∙ ap (λ s. i.unique && clash_in s k (rows_of_record i k value)) (sym h.0) ∙ breaks i records k value parts.0)
 
 pub clash_breaks : (is : List IndexInfo) (ts : List IndexRows) (records : Records) (spare : ℕ) (k : KeyTree) (value : Tree) → InStep is ts records spare → is_broken is records ≡ false
     → clash_any is ts (rows_in_indexes is k value) k ≡ is_broken is (finite.insert records k value)

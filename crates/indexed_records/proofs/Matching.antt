@@ -255,6 +255,7 @@ out_of_sets (i ∷ is) (o ∷ os) records spare e room = (head_same e, room.0, o
   where
     head_same : {A : Type 0} {x y : A} {xs ys : List A} → x ∷ xs ≡ y ∷ ys → x ≡ y
     head_same e = cc
+
     tail_same : {A : Type 0} {x y : A} {xs ys : List A} → x ∷ xs ≡ y ∷ ys → xs ≡ ys
     tail_same e = cc
 
@@ -268,5 +269,6 @@ copied_in_step (i ∷ is) (o ∷ os) (m ∷ ns) records spare e h = (head_same e
   where
     head_same : {A : Type 0} {x y : A} {xs ys : List A} → x ∷ xs ≡ y ∷ ys → x ≡ y
     head_same e = cc
+
     tail_same : {A : Type 0} {x y : A} {xs ys : List A} → x ∷ xs ≡ y ∷ ys → xs ≡ ys
     tail_same e = cc

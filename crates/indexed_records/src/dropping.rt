@@ -43,7 +43,7 @@ impl<T: Tables> Model for Dropped<T> {
     } };
 
     ghost invariant = { λ a. (a.infos.items ≡ []) × (a.tables.items ≡ []) × (a.width ≤ vec_capacity a.infos)
-      × (a.width ≤ vec_capacity a.tables) × (a.spare ≤ a.table.spare) };
+        × (a.width ≤ vec_capacity a.tables) × (a.spare ≤ a.table.spare) };
 }
 
 impl<T: Tables> Dropped<T> {
@@ -159,8 +159,17 @@ pub(crate) fn insert_both<T: Tables>(
         tables: room,
         width: _,
     } = dropped;
-    let mut all = moved(mem::replace(indexes, IndexInfos::new(alloc)).into_vec(), infos);
+    let mut all = moved(
+        mem::replace(indexes, IndexInfos::new(alloc)).into_vec(),
+        infos,
+    );
     put_one(&mut all, place, index);
     *indexes = IndexInfos::from_vec(all);
-    *tables = inserted(alloc, mem::replace(tables, Vec::new(alloc)), room, place, table);
+    *tables = inserted(
+        alloc,
+        mem::replace(tables, Vec::new(alloc)),
+        room,
+        place,
+        table,
+    );
 }

@@ -59,10 +59,7 @@ pub(crate) fn make_room<T: Tables>(
 }
 
 /// Makes room for so many rows more in each table.
-fn reserve_each<T: Tables>(
-    tables: &mut Vec<IndexTable<T>>,
-    rows: usize,
-) -> Result<(), NoMemory>
+fn reserve_each<T: Tables>(tables: &mut Vec<IndexTable<T>>, rows: usize) -> Result<(), NoMemory>
     ensures kept { AllChanged Keeps tables.old.items tables.old.items tables.new.items }
     ensures room { OnOk result (AllChanged (HasRoomFor rows) tables.old.items tables.old.items
         tables.new.items) }

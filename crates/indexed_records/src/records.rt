@@ -13,7 +13,8 @@ mod indexing;
 mod writing;
 
 use crate::reading::{
-    count_records, first_record, first_row, record_in, record_nth, shown_at, shown_count, value_found,
+    count_records, first_record, first_row, record_in, record_nth, shown_at, shown_count,
+    value_found,
 };
 use clone_values::{Key, Value};
 use idb_keys::Over;
@@ -53,7 +54,7 @@ impl<T: Tables> Model for IndexedRecords<T> {
     } };
 
     ghost invariant = { λ a. InStep a.info.indexes a.tables.items
-      (records_of (T.Records.entries a.records)) a.row_spare };
+        (records_of (T.Records.entries a.records)) a.row_spare };
 }
 
 impl<T: Tables> IndexedRecords<T> {

@@ -1,6 +1,6 @@
 use super::*;
 use clone_values::{Key, PathSpec, Text, Value};
-use idb_base::NoMemory;
+use idb_base::{GREATEST_LENGTH, NoMemory};
 use idb_keys::Over;
 use idb_schema::{IndexInfo, IndexInfos, StoreInfo};
 use index_tables::FlatTables;
@@ -45,6 +45,13 @@ fn empty_store(alloc: Global) -> Result<Store, Fail> {
     Ok(IndexedRecords::new(alloc, info))
 }
 
+fn text_value(alloc: Global, s: &str) -> Result<Value, Fail> {
+    if s.len() > GREATEST_LENGTH {
+        Err("a long text")?
+    }
+    Ok(Value::Text(Text::copy_of(alloc, s)?))
+}
+
 /// Puts a record in, or another value into the record of its key; what happened.
 fn put(store: &mut Store, key: Key, value: Value) -> Result<&'static str, NoMemory> {
     let rows = store.rows_for(&key, &value)?;
@@ -56,6 +63,9 @@ fn put(store: &mut Store, key: Key, value: Value) -> Result<&'static str, NoMemo
         }
         Ok(place) => match store.record_at(place) {
             Some((key, old)) => {
+                if store.len() <= place {
+                    return Ok("? ");
+                }
                 let old_rows = store.rows_for(key, old)?;
                 store.reserve(0, rows.count())?;
                 let _ = store.replace_at(place, value, &old_rows, rows);
@@ -142,8 +152,11 @@ fn push_members(text: &mut String, store: &Store) -> Result<(), Fail> {
 fn run(alloc: Global, text: &mut String, store: &mut Store, step: Step) -> Result<(), Fail> {
     match step {
         Step::Put(key, value) => {
-            let value = Value::Text(Text::copy_of(alloc, value)?);
-            write!(text, "{}", put(store, Key::Number(key), value)?)?
+            write!(
+                text,
+                "{}",
+                put(store, Key::Number(key), text_value(alloc, value)?)?
+            )?
         }
         Step::Take(key) => write!(text, "{}", take(store, key)?)?,
         Step::AddIndex(unique) => write!(text, "{} ", add_index(alloc, store, unique)?)?,

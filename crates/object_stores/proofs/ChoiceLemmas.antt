@@ -64,6 +64,7 @@ not_evaluated path value e = by_none (evaluated path value) e
     by_found : (o : Option KeyTree) → one_or_invalid o ≡ failure → ⊥
     by_found None e = cc
     by_found (Some k) e = cc
+
     by_none : (o : Option Tree) → extracted_from false o ≡ failure → o ≡ None
     by_none None e = refl
     by_none (Some t) e = absurd (by_found (key_of t) (sym (converted_one t) ∙ e))

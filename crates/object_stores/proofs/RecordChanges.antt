@@ -123,6 +123,6 @@ none_had q (e ∷ es) none =
 pub cleared_changes : (store : Store) → cleared store ≡ without_records store (finite.keys store.records)
 cleared_changes store =
     sym (same_rest store (finite.keys store.records) ∙ ap (λ m. record store { records = m }) (same_map key_cmp_total key_cmp_same _ _ (λ q.
-        left_of store (finite.keys store.records) q
-        ∙ kept_or_none store.records q _ (λ none. get-entries store.records q ∙ none_had q (finite.entries store.records) none)
-        ∙ sym (get-empty key_cmp q))))
+    left_of store (finite.keys store.records) q
+    ∙ kept_or_none store.records q _ (λ none. get-entries store.records q ∙ none_had q (finite.entries store.records) none)
+    ∙ sym (get-empty key_cmp q))))

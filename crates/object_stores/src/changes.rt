@@ -7,7 +7,10 @@ use indexed_records::{Dropped, Emptied, IndexedRecords, RowLists};
 #[derive(Drop)]
 pub(crate) enum Change<T: Tables> {
     /// A record came, with these rows.
-    Added { key: Key, rows: RowLists },
+    Added {
+        key: Key,
+        rows: RowLists,
+    },
     /// A record went, with these rows.
     Removed {
         key: Key,
@@ -30,7 +33,9 @@ pub(crate) enum Change<T: Tables> {
     /// The last index came.
     IndexAdded,
     /// An index went.
-    IndexDropped { dropped: Dropped<T> },
+    IndexDropped {
+        dropped: Dropped<T>,
+    },
 }
 
 /// The content of an object store in its parts: what it has, its changes, and how many records and rows come back where

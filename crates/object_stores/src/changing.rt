@@ -68,7 +68,8 @@ pub(crate) fn add<T: Tables>(
         (finite.insert parts.old.contents.records (key_tree_of key) (tree_of value)) ≡ false }
     ensures sound { IsSound parts.new }
     ensures content { content_in parts.new ≡ record (content_in parts.old) {
-        records = finite.insert parts.old.contents.records (key_tree_of key) (tree_of value) } }
+      records = finite.insert parts.old.contents.records (key_tree_of key) (tree_of value);
+    } }
     ensures past { past_in parts.new ≡ past_in parts.old ++ content_in parts.old ∷ [] }
 {
     parts.contents.put_at(place, key, value, rows);
@@ -104,7 +105,8 @@ pub(crate) fn replace<T: Tables>(
         (finite.insert parts.old.contents.records (key_tree_of key) (tree_of value)) ≡ false }
     ensures sound { IsSound parts.new }
     ensures content { content_in parts.new ≡ record (content_in parts.old) {
-        records = finite.insert parts.old.contents.records (key_tree_of key) (tree_of value) } }
+      records = finite.insert parts.old.contents.records (key_tree_of key) (tree_of value);
+    } }
     ensures past { past_in parts.new ≡ past_in parts.old ++ content_in parts.old ∷ [] }
 {
     let old = parts.contents.replace_at(place, value, &old_rows, rows);

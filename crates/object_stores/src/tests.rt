@@ -1,10 +1,11 @@
-ghost use Rattle.std.specs.Prelude.{◌≡◌, true, IfOk};
+ghost use Rattle.std.specs.Prelude.{◌≡◌, true, false, IfOk};
 ghost use Rattle.clone_values.specs.View.{tree_of};
+ghost use Rattle.clone_values.specs.declared.path_types.PathSpec.TheVariants.{One};
 ghost use Rattle.object_stores.specs.Storing.{HasKey, in_line};
 
 use super::*;
 use clone_values::{Key, PathSpec, Props, Text, Value, is_cloneable, is_int, well_formed};
-use idb_base::NoMemory;
+use idb_base::{GREATEST_LENGTH, NoMemory};
 use idb_keys::{KeyRange, Over};
 use idb_schema::{IndexInfo, IndexInfos, StoreInfo};
 use index_tables::FlatTables;
@@ -38,11 +39,18 @@ enum Step {
 }
 
 // ---- stores and values
-fn path(alloc: Global, s: &str) -> Result<KeyPath, Fail> {
+fn path(alloc: Global, s: &str) -> Result<KeyPath, Fail>
+    ensures { IfOk result (λ p. p ≡ One s.now) }
+{
+    if s.len() > GREATEST_LENGTH {
+        Err("a long path")?
+    }
     Ok(KeyPath::parse(PathSpec::One(Text::copy_of(alloc, s)?))?)
 }
 
-fn by_e(alloc: Global, unique: bool) -> Result<IndexInfo, Fail> {
+fn by_e(alloc: Global, unique: bool) -> Result<IndexInfo, Fail>
+    ensures { IfOk result (λ i. i.multi ≡ false) }
+{
     Ok(IndexInfo {
         name: Text::copy_of(alloc, "by e")?,
         path: path(alloc, "e")?,
@@ -204,7 +212,10 @@ fn run(
         Step::Put(key, e) => push_answer(text, put(store, object(rt, alloc, e)?, key, false)?)?,
         Step::Add(key, e) => push_answer(text, put(store, object(rt, alloc, e)?, key, true)?)?,
         Step::PutNext(e) => push_answer(text, put_alone(alloc, store, object(rt, alloc, e)?)?)?,
-        Step::PutEmpty => push_answer(text, put_alone(alloc, store, Value::Object(Props::new(alloc)))?)?,
+        Step::PutEmpty => push_answer(
+            text,
+            put_alone(alloc, store, Value::Object(Props::new(alloc)))?,
+        )?,
         Step::Delete(low, high) => {
             match KeyRange::bound(Key::Number(low), Key::Number(high), false, false) {
                 Ok(range) => write!(text, "{} gone ", store.delete_range(&range)?)?,
@@ -230,7 +241,12 @@ fn run(
 }
 
 /// What these steps answer, one behind the other.
-fn answers(rt: &impl Abort, alloc: Global, store: &mut Store, steps: &[Step]) -> Result<String, Fail> {
+fn answers(
+    rt: &impl Abort,
+    alloc: Global,
+    store: &mut Store,
+    steps: &[Step],
+) -> Result<String, Fail> {
     let mut text = String::new(alloc);
     let mut marks = Vec::new(alloc);
     for step in steps {
@@ -260,7 +276,10 @@ fn a_unique_index_refuses(rt: HostRuntime) -> Result<(), Fail> {
             Step::Show,
         ],
     )?;
-    assert_eq!(rt; text.as_str(), "0 1 ! ! 1 2 1:1 2:2 | 1:2 2:1 | 3 / 1 ! 1:1 2:2 | 1:2 2:1 | 3 / ");
+    assert_eq!(rt;
+        text.as_str(),
+        "0 1 ! ! 1 2 1:1 2:2 | 1:2 2:1 | 3 / 1 ! 1:1 2:2 | 1:2 2:1 | 3 / "
+    );
     Ok(())
 }
 
@@ -284,7 +303,10 @@ fn an_index_comes_and_goes(rt: HostRuntime) -> Result<(), Fail> {
             Step::Show,
         ],
     )?;
-    assert_eq!(rt; text.as_str(), "1 2 1 0 1:1 2:2 | 1:1 1:2 | 1 / 1 properties - 1:1 2:2 | | 1 / ");
+    assert_eq!(rt;
+        text.as_str(),
+        "1 2 1 0 1:1 2:2 | 1:1 1:2 | 1 / 1 properties - 1:1 2:2 | | 1 / "
+    );
     Ok(())
 }
 
@@ -365,25 +387,22 @@ fn numbers_are_given(rt: HostRuntime) -> Result<(), Fail> {
     Ok(())
 }
 
-/// A store whose keys stand in the values, by this path.
-fn store_of_path(alloc: Global, s: &str) -> Result<Store, Fail> {
-    let path = path(alloc, s)?;
+/// A store whose keys stand in the values.
+fn store_of_path(alloc: Global) -> Result<Store, Fail> {
+    let path = path(alloc, "e")?;
     let info = StoreInfo {
         name: Text::copy_of(alloc, "s")?,
         path: Some(path),
         auto: true,
         indexes: IndexInfos::new(alloc),
     };
-    if s.is_empty() {
-        Err("no path")?
-    }
     Ok(StoreVersion::new(alloc, info))
 }
 
 /// A key that stands at the path is taken, and a number is put there where none does.
 #[test]
 fn keys_stand_in_values(rt: HostRuntime) -> Result<(), Fail> {
-    let mut store = store_of_path(rt.alloc(), "e")?;
+    let mut store = store_of_path(rt.alloc())?;
     let text = answers(
         &rt,
         rt.alloc(),
@@ -397,7 +416,10 @@ fn keys_stand_in_values(rt: HostRuntime) -> Result<(), Fail> {
             Step::Show,
         ],
     )?;
-    assert_eq!(rt; text.as_str(), "0 3 4 5 1 properties 3:3 4:4 5:5 | 3:3 4:4 5:5 | 6 / ");
+    assert_eq!(rt;
+        text.as_str(),
+        "0 3 4 5 1 properties 3:3 4:4 5:5 | 3:3 4:4 5:5 | 6 / "
+    );
     Ok(())
 }
 

@@ -56,7 +56,8 @@ fn undo_added<T: Tables>(parts: &mut Parts<T>, key: &Key, rows: &RowLists)
     requires { IsOff (change.Added key.now rows.now) parts.old }
     ensures sound { IsSound parts.new }
     ensures content { content_in parts.new ≡ record (content_in parts.old) {
-        records = finite.remove parts.old.contents.records (key_tree_of key.now) } }
+      records = finite.remove parts.old.contents.records (key_tree_of key.now);
+    } }
     ensures log { parts.new.log.items ≡ parts.old.log.items }
 {
     match parts.contents.find(key) {
@@ -71,7 +72,8 @@ fn undo_removed<T: Tables>(parts: &mut Parts<T>, key: Key, value: Value, rows: R
     requires { IsOff (change.Removed key value rows) parts.old }
     ensures sound { IsSound parts.new }
     ensures content { content_in parts.new ≡ record (content_in parts.old) {
-        records = finite.insert parts.old.contents.records (key_tree_of key) (tree_of value) } }
+      records = finite.insert parts.old.contents.records (key_tree_of key) (tree_of value);
+    } }
     ensures log { parts.new.log.items ≡ parts.old.log.items }
 {
     parts.removed -= 1;
@@ -92,7 +94,8 @@ fn undo_replaced<T: Tables>(
     requires { IsOff (change.Replaced key.now value rows new_rows.now) parts.old }
     ensures sound { IsSound parts.new }
     ensures content { content_in parts.new ≡ record (content_in parts.old) {
-        records = finite.insert parts.old.contents.records (key_tree_of key.now) (tree_of value) } }
+      records = finite.insert parts.old.contents.records (key_tree_of key.now) (tree_of value);
+    } }
     ensures log { parts.new.log.items ≡ parts.old.log.items }
 {
     parts.rows -= rows.count();
@@ -129,7 +132,8 @@ fn undo_index_dropped<T: Tables>(parts: &mut Parts<T>, dropped: Dropped<T>)
     requires { IsOff (change.IndexDropped dropped) parts.old }
     ensures sound { IsSound parts.new }
     ensures content { content_in parts.new ≡ record (content_in parts.old) {
-        info = info_with_index_at parts.old.contents.info dropped.place dropped.index } }
+      info = info_with_index_at parts.old.contents.info dropped.place dropped.index;
+    } }
     ensures log { parts.new.log.items ≡ parts.old.log.items }
 {
     parts.contents.put_back(dropped);

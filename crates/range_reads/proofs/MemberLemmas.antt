@@ -107,4 +107,3 @@ pub first_value_at : (records : Records) (ms ys : List RowTree) (o : Option ℕ)
     → option_and_then (λ (m : RowTree). finite.get records m.1) (option_and_then (slice_get ms) o) ≡ first_value records ys
 first_value_at records ms ys o e =
     through (λ k. finite.get records k) (λ (m : RowTree). m.1) (option_and_then (slice_get ms) o) ∙ ap (option_and_then (λ k. finite.get records k)) (first_primary_at ms ys o e)
-

@@ -156,6 +156,7 @@ module _ {A : Type 0} (low high : A → Bool) where
       not_so : (b : Bool) → not b ≡ true → b ≡ false
       not_so true e = cc
       not_so false e = refl
+
       at_first : (xs : List A) → list_all (λ m. not (both m)) xs ≡ true → list_all (λ m. not (both m)) (drop zero xs) ≡ true
       at_first xs e = e
   none_chosen (x ∷ xs) (suc s) h k =
@@ -194,7 +195,7 @@ module _ (range : Range) (ms : List RowTree) (s : ℕ) (split : IsFirstFrom rang
       let low = holds_at (λ m. meets_lower range.lower m.0) ms s m (list_all-from_AllPass _ _ split.behind) at in
       let high : meets_upper range.upper m.0 ≡ false = fails_after _ _ low e in
       ap (λ xs. slice_get xs 0) (none_chosen (λ m. meets_lower range.lower m.0) (λ m. meets_upper range.upper m.0) ms s (list_all-from_AllPass _ _ split.before)
-          (all_fail (λ m. includes range m.0) ms s (λ j q le there. and_false _ _ (later high j q le there))))
+      (all_fail (λ m. includes range m.0) ms s (λ j q le there. and_false _ _ (later high j q le there))))
     where
       later : meets_upper range.upper m.0 ≡ false → (j : ℕ) (q : RowTree) → s ≤ j → slice_get ms j ≡ Some q → meets_upper range.upper q.0 ≡ false
       later high j q le there =
@@ -206,4 +207,4 @@ module _ (range : Range) (ms : List RowTree) (s : ℕ) (split : IsFirstFrom rang
   pub first_missing : slice_get ms s ≡ None → slice_get (selected range ms) 0 ≡ None
   first_missing at =
       ap (λ xs. slice_get xs 0) (none_chosen (λ m. meets_lower range.lower m.0) (λ m. meets_upper range.upper m.0) ms s (list_all-from_AllPass _ _ split.before)
-          (none_behind (λ m. not (includes range m.0)) ms s at))
+      (none_behind (λ m. not (includes range m.0)) ms s at))

@@ -1,6 +1,6 @@
 use super::*;
 use clone_values::{Key, PathSpec, Text, Value};
-use idb_base::NoMemory;
+use idb_base::{GREATEST_LENGTH, NoMemory};
 use idb_keys::{KeyRange, Over};
 use idb_schema::{IndexInfo, IndexInfos, StoreInfo};
 use index_tables::FlatTables;
@@ -13,6 +13,13 @@ type Store = IndexedRecords<FlatTables>;
 
 /// A bound's key, and whether it is open.
 type Place = Option<(i64, bool)>;
+
+fn text_value(alloc: Global, s: &str) -> Result<Value, Fail> {
+    if s.len() > GREATEST_LENGTH {
+        Err("a long text")?
+    }
+    Ok(Value::Text(Text::copy_of(alloc, s)?))
+}
 
 /// Puts a new record in.
 fn put(store: &mut Store, key: Key, value: Value) -> Result<(), NoMemory> {
@@ -41,8 +48,7 @@ fn four_texts(alloc: Global) -> Result<Store, Fail> {
     };
     let mut store = IndexedRecords::new(alloc, info);
     for (key, value) in [(10, "ab"), (20, "c"), (30, "de"), (40, "fgh")] {
-        let value = Value::Text(Text::copy_of(alloc, value)?);
-        put(&mut store, Key::Number(key), value)?;
+        put(&mut store, Key::Number(key), text_value(alloc, value)?)?;
     }
     Ok(store)
 }

@@ -10,8 +10,7 @@ returns-in_err-room-clause-step g c records h = filled_in_step _ _ _ _ records _
 
 pub invariant_of-result : goal.invariant_of-result
 invariant_of-result g c =
-    let filled = filled_in_step _ _ _ _ c.requires.step.0 _ (omega arith) c.requires.step.1 c.in_ok-complete.ensures.ok in
-    (
+    let filled = filled_in_step _ _ _ _ c.requires.step.0 _ (omega arith) c.requires.step.1 c.in_ok-complete.ensures.ok in (
       c.in_ok-infos.ensures.items,
       c.in_ok-room.ensures.items,
       omega (arith, c.in_ok-infos.ensures.exact),

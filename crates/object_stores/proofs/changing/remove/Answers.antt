@@ -22,7 +22,7 @@ returns-clause-sound g c =
     sound_pushed (change.Removed c.take_out-key.result.0 c.take_out-key.result.1 c.args.rows) old _ c.note.ensures.items
     (removed_back (content_in old) _ k v e.info e.records e.taken.found) c.requires.sound
     (subst IsStoreContent (λ i. record { info = sym e.info i; records = sym e.records i })
-        (fine_records (content_in old) fine (remove old.contents.records k) (stored_remove old.contents.records k fine.records) (c.unique_laws.ensures.kept old.contents.info.indexes old.contents.records k fine.unique)))
+    (fine_records (content_in old) fine (remove old.contents.records k) (stored_remove old.contents.records k fine.records) (c.unique_laws.ensures.kept old.contents.info.indexes old.contents.records k fine.unique)))
     (removed_can (content_in old) _ k v e.info e.records c.args.rows (c.requires.rows k v e.taken.stands))
     (omega (arith, c.requires.ready.records, e.spare), omega (arith, c.requires.ready.rows, e.row_spare))
     c.requires.sound.kept (omega (arith, c.requires.sound.removed)) (omega (arith, c.requires.sound.rows, c.count.ensures))

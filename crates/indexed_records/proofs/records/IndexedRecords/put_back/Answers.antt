@@ -13,4 +13,4 @@ invariant_of-self g c =
     let rows = subst (λ v. c.args.dropped.rows ≡ index_rows c.args.dropped.index v.records) (sym c.self.view_is) c.requires.rows in
     let place = subst (λ v. c.args.dropped.place ≤ length v.info.indexes) (sym c.self.view_is) c.requires.place in
     rw c.insert_both.ensures.indexes (inserted_in_step c.args.dropped.place _ c.self.inside.tables.items _ _ c.self.inside.row_spare _ c.args.dropped.index t.0 c.self.invariant place (t.1 ∙ rows)
-        (omega (arith, min-le_left c.self.inside.row_spare c.spare.result, c.min-self-inside.ensures)) (omega (arith, min-le_right c.self.inside.row_spare c.spare.result, c.min-self-inside.ensures, c.spare.ensures, t.2)) t.3)
+    (omega (arith, min-le_left c.self.inside.row_spare c.spare.result, c.min-self-inside.ensures)) (omega (arith, min-le_right c.self.inside.row_spare c.spare.result, c.min-self-inside.ensures, c.spare.ensures, t.2)) t.3)

@@ -28,7 +28,7 @@ invariant_of-self g c =
     let new = subst (λ v. (k : KeyTree) (u : Tree) → slice_get (finite.entries v.records) c.args.place ≡ Some (k, u) → c.args.new_rows ≡ rows_in_indexes v.info.indexes k (tree_of c.args.value)) (sym c.self.view_is) c.requires.new_rows in
     let room = subst (λ v. rows_among c.args.new_rows ≤ v.row_spare) (sym c.self.view_is) c.requires.rooms in
     rw (c.replace_record.ensures.records e.0 e.1 e.2) (replace_steps _ _ _ _ e.0 c.self.invariant (tree_of c.args.value) c.args.new_rows (new e.0 e.1 e.2) e.1 c.args.old_rows.now (old e.0 e.1 e.2)
-        (record_found _ c.args.place (e.0, e.1) e.2) _ (omega (arith, room, c.count.ensures)) _ c.replace_in_each.ensures)
+    (record_found _ c.args.place (e.0, e.1) e.2) _ (omega (arith, room, c.count.ensures)) _ c.replace_in_each.ensures)
 
 pub returns-clause-records : goal.returns-clause-records
 returns-clause-records g c k v at =
