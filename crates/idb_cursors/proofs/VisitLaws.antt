@@ -21,7 +21,7 @@ use Rattle.idb_keys.specs.KeyRange.{Range, includes}
 use Rattle.index_tables.specs.Rows.{RowTree, row_cmp}
 use Rattle.idb_cursors.specs.Cursors.{TurnData, is_passed, meets, last_position, first_of_key, next_place}
 use Rattle.idb_cursors.specs.Views.{AreRising}
-use Rattle.idb_cursors.specs.Visits.{visits, visited, selected, firsts_after, firsts_of_keys}
+use Rattle.idb_cursors.specs.Visits.{visits, visited, rows_in_range, firsts_after, firsts_of_keys}
 use Rattle.idb_cursors.proofs.Directions.{row_after}
 use Rattle.idb_cursors.proofs.Positions.{first_found, first_none, last_found, last_none}
 use Rattle.idb_cursors.proofs.Nearest.{nearer, one_row}
@@ -215,24 +215,24 @@ module _ (rows : List RowTree) (rising : AreRising rows) (range : Range) where
     | inr less ↦ after i r less there
   ]
 
-  taken_list : (k : ℕ) (m : RowTree) → slice_get rows k ≡ Some m → includes range m.0 ≡ true → selected range (drop k rows) ≡ m ∷ selected range (drop (suc k) rows)
+  taken_list : (k : ℕ) (m : RowTree) → slice_get rows k ≡ Some m → includes range m.0 ≡ true → rows_in_range range (drop k rows) ≡ m ∷ rows_in_range range (drop (suc k) rows)
   taken_list k m at e = rw (drop_at rows k m at, e) refl
 
-  left_out : (k : ℕ) (m : RowTree) → slice_get rows k ≡ Some m → includes range m.0 ≡ false → selected range (drop k rows) ≡ selected range (drop (suc k) rows)
+  left_out : (k : ℕ) (m : RowTree) → slice_get rows k ≡ Some m → includes range m.0 ≡ false → rows_in_range range (drop k rows) ≡ rows_in_range range (drop (suc k) rows)
   left_out k m at e = rw (drop_at rows k m at, e) refl
 
-  taken_front : (k : ℕ) (m : RowTree) → slice_get rows k ≡ Some m → includes range m.0 ≡ true → selected range (take (suc k) rows) ≡ selected range (take k rows) ++ m ∷ []
-  taken_front k m at e = ap (selected range) (take_at rows k m at) ∙ filter-append (λ r. includes range r.0) (take k rows) (m ∷ []) ∙ rw e refl
+  taken_front : (k : ℕ) (m : RowTree) → slice_get rows k ≡ Some m → includes range m.0 ≡ true → rows_in_range range (take (suc k) rows) ≡ rows_in_range range (take k rows) ++ m ∷ []
+  taken_front k m at e = ap (rows_in_range range) (take_at rows k m at) ∙ filter-append (λ r. includes range r.0) (take k rows) (m ∷ []) ∙ rw e refl
 
-  left_front : (k : ℕ) (m : RowTree) → slice_get rows k ≡ Some m → includes range m.0 ≡ false → selected range (take (suc k) rows) ≡ selected range (take k rows)
-  left_front k m at e = ap (selected range) (take_at rows k m at) ∙ filter-append (λ r. includes range r.0) (take k rows) (m ∷ []) ∙ rw e (append_nil (selected range (take k rows)))
+  left_front : (k : ℕ) (m : RowTree) → slice_get rows k ≡ Some m → includes range m.0 ≡ false → rows_in_range range (take (suc k) rows) ≡ rows_in_range range (take k rows)
+  left_front k m at e = ap (rows_in_range range) (take_at rows k m at) ∙ filter-append (λ r. includes range r.0) (take k rows) (m ∷ []) ∙ rw e (append_nil (rows_in_range range (take k rows)))
 
   -- ---- next
   abbrev NextGoes : ℕ → ℕ → Type 0
   NextGoes left k = (n : ℕ) (place : Option RowTree) → left ≤ n
       → ((i : ℕ) (r : RowTree) → i < k → slice_get rows i ≡ Some r → meets (going Next place) r ≡ false)
       → ((i : ℕ) (r : RowTree) → k ≤ i → slice_get rows i ≡ Some r → is_passed Next place r ≡ true)
-      → visits n rows (going Next place) ≡ selected range (drop k rows)
+      → visits n rows (going Next place) ≡ rows_in_range range (drop k rows)
 
   next_step : (left k : ℕ) (m : RowTree) → slice_get rows k ≡ Some m → NextGoes left (suc k) → (b : Bool) → includes range m.0 ≡ b → NextGoes (suc left) k
   next_step left k m at again b e zero place enough before behind = absurd (omega (arith, enough))
@@ -249,12 +249,12 @@ module _ (rows : List RowTree) (rising : AreRising rows) (range : Range) where
   next_goes : (left k : ℕ) → k + left ≡ length rows → NextGoes left k
   next_goes zero k all n place enough before behind =
       stops rows (going Next place) n (first_none (meets (going Next place)) rows (λ i r at. before i r (omega (arith, all, slice_get_within rows i r at)) at))
-      ∙ sym (ap (selected range) (drop_all rows k (omega (arith, all))))
+      ∙ sym (ap (rows_in_range range) (drop_all rows k (omega (arith, all))))
   next_goes (suc left) k all n place enough before behind =
       let m = stands rows k (omega (arith, all)) in
       next_step left k m.0 m.1 (next_goes left (suc k) (omega (arith, all))) (includes range m.0.0) refl n place enough before behind
 
-  pub visits_next : visited rows Next range ≡ selected range rows
+  pub visits_next : visited rows Next range ≡ rows_in_range range rows
   visits_next = next_goes (length rows) 0 (omega arith) (length rows) None (omega arith) (λ i r lt at. absurd (omega (arith, lt))) (λ i r le at. refl)
 
   -- ---- nextunique
@@ -278,13 +278,13 @@ module _ (rows : List RowTree) (rising : AreRising rows) (range : Range) where
   UniqueGoes left k = (n : ℕ) (place : Option RowTree) → left ≤ n
       → ((i : ℕ) (r : RowTree) → i < k → slice_get rows i ≡ Some r → meets (going NextUnique place) r ≡ false)
       → ((i : ℕ) (r : RowTree) → k ≤ i → slice_get rows i ≡ Some r → NotBefore place r)
-      → visits n rows (going NextUnique place) ≡ firsts_from place (selected range (drop k rows))
+      → visits n rows (going NextUnique place) ≡ firsts_from place (rows_in_range range (drop k rows))
 
   unique_step : (left k : ℕ) (m : RowTree) → slice_get rows k ≡ Some m → UniqueGoes left (suc k) → (b : Bool) → includes range m.0 ≡ b
       → (n : ℕ) (place : Option RowTree) (c : Bool) → is_passed NextUnique place m ≡ c → suc left ≤ n
       → ((i : ℕ) (r : RowTree) → i < k → slice_get rows i ≡ Some r → meets (going NextUnique place) r ≡ false)
       → ((i : ℕ) (r : RowTree) → k ≤ i → slice_get rows i ≡ Some r → NotBefore place r)
-      → visits n rows (going NextUnique place) ≡ firsts_from place (selected range (drop k rows))
+      → visits n rows (going NextUnique place) ≡ firsts_from place (rows_in_range range (drop k rows))
   unique_step left k m at again b e zero place c f enough before behind = absurd (omega (arith, enough))
   unique_step left k m at again true e (suc n) place true f enough before behind =
       takes rows (going NextUnique place) n k m (first_found (meets (going NextUnique place)) rows k m at (meets_both NextUnique place m e f) before) at
@@ -308,12 +308,12 @@ module _ (rows : List RowTree) (rising : AreRising rows) (range : Range) where
   unique_goes : (left k : ℕ) → k + left ≡ length rows → UniqueGoes left k
   unique_goes zero k all n place enough before behind =
       stops rows (going NextUnique place) n (first_none (meets (going NextUnique place)) rows (λ i r at. before i r (omega (arith, all, slice_get_within rows i r at)) at))
-      ∙ sym (ap (λ xs. firsts_from place (selected range xs)) (drop_all rows k (omega (arith, all))) ∙ nothing_left place)
+      ∙ sym (ap (λ xs. firsts_from place (rows_in_range range xs)) (drop_all rows k (omega (arith, all))) ∙ nothing_left place)
   unique_goes (suc left) k all n place enough before behind =
       let m = stands rows k (omega (arith, all)) in
       unique_step left k m.0 m.1 (unique_goes left (suc k) (omega (arith, all))) (includes range m.0.0) refl n place (is_passed NextUnique place m.0) refl enough before behind
 
-  pub visits_next_unique : visited rows NextUnique range ≡ firsts_of_keys (selected range rows)
+  pub visits_next_unique : visited rows NextUnique range ≡ firsts_of_keys (rows_in_range range rows)
   visits_next_unique = unique_goes (length rows) 0 (omega arith) (length rows) None (omega arith) (λ i r lt at. absurd (omega (arith, lt))) (λ i r le at. tt)
 
   -- ---- prev
@@ -321,7 +321,7 @@ module _ (rows : List RowTree) (rising : AreRising rows) (range : Range) where
   PrevGoes k = (n : ℕ) (place : Option RowTree) → k ≤ n
       → ((i : ℕ) (r : RowTree) → k ≤ i → slice_get rows i ≡ Some r → meets (going Prev place) r ≡ false)
       → ((i : ℕ) (r : RowTree) → i < k → slice_get rows i ≡ Some r → is_passed Prev place r ≡ true)
-      → visits n rows (going Prev place) ≡ reverse (selected range (take k rows))
+      → visits n rows (going Prev place) ≡ reverse (rows_in_range range (take k rows))
 
   prev_step : (k : ℕ) (m : RowTree) → slice_get rows k ≡ Some m → PrevGoes k → (b : Bool) → includes range m.0 ≡ b → PrevGoes (suc k)
   prev_step k m at again b e zero place enough after before = absurd (omega (arith, enough))
@@ -330,7 +330,7 @@ module _ (rows : List RowTree) (rising : AreRising rows) (range : Range) where
       ∙ ap (λ r. m ∷ r) (again n (Some m) (omega (arith, enough))
       (λ i r le there. not_passed Prev (Some m) r (not_back m r (before_or_there i r there k m le at)))
       (λ i r lt there. passed_back m r (rising i k r m lt there at)))
-      ∙ sym (ap reverse (taken_front k m at e) ∙ reverse_push (selected range (take k rows)) m)
+      ∙ sym (ap reverse (taken_front k m at e) ∙ reverse_push (rows_in_range range (take k rows)) m)
   prev_step k m at again false e (suc n) place enough after before =
       again (suc n) place (omega (arith, enough)) (one_less (going Prev place) k m at (λ i r lt there. after i r (omega (arith, lt)) there) (out_of_range Prev place m e)) (λ i r lt there. before i r (omega (arith, lt)) there)
       ∙ sym (ap reverse (left_front k m at e))
@@ -341,10 +341,10 @@ module _ (rows : List RowTree) (rising : AreRising rows) (range : Range) where
       let m = stands rows k (omega (arith, within)) in
       prev_step k m.0 m.1 (prev_goes k (omega (arith, within))) (includes range m.0.0) refl n place enough after before
 
-  pub visits_prev : visited rows Prev range ≡ reverse (selected range rows)
+  pub visits_prev : visited rows Prev range ≡ reverse (rows_in_range range rows)
   visits_prev =
       prev_goes (length rows) (omega arith) (length rows) None (omega arith) (λ i r le at. absurd (omega (arith, le, slice_get_within rows i r at))) (λ i r lt at. refl)
-      ∙ ap (λ xs. reverse (selected range xs)) (take_whole rows)
+      ∙ ap (λ xs. reverse (rows_in_range range xs)) (take_whole rows)
 
   -- ---- prevunique
   same_key : (a m r : RowTree) → is_le (key_cmp a.0 r.0) ≡ true → is_le (key_cmp r.0 m.0) ≡ true → a.0 ≡ m.0 → r.0 ≡ m.0
@@ -354,12 +354,12 @@ module _ (rows : List RowTree) (rising : AreRising rows) (range : Range) where
   -- from the first member of a key to the last one in front of a place, one member of the key is told
   key_run : (d f k : ℕ) (a m : RowTree) → f + d ≡ k → slice_get rows f ≡ Some a → slice_get rows k ≡ Some m → a.0 ≡ m.0 → includes range m.0 ≡ true
       → ((i : ℕ) (r : RowTree) → i < f → slice_get rows i ≡ Some r → is_eq (key_cmp r.0 a.0) ≡ false)
-      → firsts_of_keys (selected range (take (suc k) rows)) ≡ firsts_of_keys (selected range (take f rows)) ++ a ∷ []
+      → firsts_of_keys (rows_in_range range (take (suc k) rows)) ≡ firsts_of_keys (rows_in_range range (take f rows)) ++ a ∷ []
   key_run zero f k a m sum at there same e new =
       let one : a ≡ m = one_row rows f k a m (omega (arith, sum)) at there in
       let here : k ≡ f = omega (arith, sum) in
-      ap firsts_of_keys (ap (λ i. selected range (take (suc i) rows)) here ∙ taken_front f a at (ap (λ j. includes range j) same ∙ e))
-      ∙ push_new (selected range (take f rows)) a (all_filter (λ x. is_eq (key_cmp x.0 a.0) ≡ false) (λ r. includes range r.0) (take f rows) (all_take (λ x. is_eq (key_cmp x.0 a.0) ≡ false) rows f new))
+      ap firsts_of_keys (ap (λ i. rows_in_range range (take (suc i) rows)) here ∙ taken_front f a at (ap (λ j. includes range j) same ∙ e))
+      ∙ push_new (rows_in_range range (take f rows)) a (all_filter (λ x. is_eq (key_cmp x.0 a.0) ≡ false) (λ r. includes range r.0) (take f rows) (all_take (λ x. is_eq (key_cmp x.0 a.0) ≡ false) rows f new))
   key_run (suc d) f zero a m sum at there same e new = absurd (omega (arith, sum))
   key_run (suc d) f (suc k) a m sum at there same e new =
       let z = stands rows k (omega (arith, slice_get_within rows (suc k) m there)) in
@@ -367,8 +367,8 @@ module _ (rows : List RowTree) (rising : AreRising rows) (range : Range) where
       let high = row_after true z.0 m (rising k (suc k) z.0 m (omega arith) z.1 there) in
       let alike : z.0.0 ≡ m.0 = same_key a m z.0 low high same in
       let kept : includes range z.0.0 ≡ true = ap (λ j. includes range j) alike ∙ e in
-      ap firsts_of_keys (taken_front (suc k) m there e ∙ ap (λ xs. xs ++ m ∷ []) (taken_front k z.0 z.1 kept) ∙ append_two (selected range (take k rows)) z.0 m)
-      ∙ push_old (selected range (take k rows)) z.0 m alike
+      ap firsts_of_keys (taken_front (suc k) m there e ∙ ap (λ xs. xs ++ m ∷ []) (taken_front k z.0 z.1 kept) ∙ append_two (rows_in_range range (take k rows)) z.0 m)
+      ∙ push_old (rows_in_range range (take k rows)) z.0 m alike
       ∙ ap firsts_of_keys (sym (taken_front k z.0 z.1 kept))
       ∙ key_run d f k a z.0 (omega (arith, sum)) at z.1 (same ∙ sym alike) kept new
 
@@ -376,7 +376,7 @@ module _ (rows : List RowTree) (rising : AreRising rows) (range : Range) where
   PrevUniqueGoes k = (n : ℕ) (place : Option RowTree) → k ≤ n
       → ((i : ℕ) (r : RowTree) → k ≤ i → slice_get rows i ≡ Some r → meets (going PrevUnique place) r ≡ false)
       → ((i : ℕ) (r : RowTree) → i < k → slice_get rows i ≡ Some r → is_passed PrevUnique place r ≡ true)
-      → visits n rows (going PrevUnique place) ≡ reverse (firsts_of_keys (selected range (take k rows)))
+      → visits n rows (going PrevUnique place) ≡ reverse (firsts_of_keys (rows_in_range range (take k rows)))
 
   first_place : (place : Option RowTree) (k f : ℕ) (m a : RowTree) → last_position (meets (going PrevUnique place)) rows ≡ Some k → slice_get rows k ≡ Some m → slice_get rows f ≡ Some a
       → is_eq (key_cmp a.0 m.0) ≡ true → ((i : ℕ) (r : RowTree) → i < f → slice_get rows i ≡ Some r → is_eq (key_cmp r.0 m.0) ≡ false) → next_place rows (going PrevUnique place) ≡ Some f
@@ -399,7 +399,7 @@ module _ (rows : List RowTree) (rising : AreRising rows) (range : Range) where
       ∙ ap (λ r. a ∷ r) (again f first.within n (Some a) (omega (arith, enough, first.within))
       (λ i r le there. not_passed PrevUnique (Some a) r (not_lt _ (key_le a r (before_or_there i r there f a le first.stands))))
       (λ i r lt there. ap (λ o. is_lt (ordering_reverse o)) (sym (key_turned r.0 a.0)) ∙ turned_lt _ (less_than _ (row_after true r a (rising i f r a lt there first.stands)) (new i r lt there))))
-      ∙ sym (ap reverse (key_run (k - f) f k a m (omega (arith, first.within)) first.stands at same e new) ∙ reverse_push (firsts_of_keys (selected range (take f rows))) a)
+      ∙ sym (ap reverse (key_run (k - f) f k a m (omega (arith, first.within)) first.stands at same e new) ∙ reverse_push (firsts_of_keys (rows_in_range range (take f rows))) a)
   prev_unique_step k m at again false e (suc n) place enough after before =
       again k (omega arith) (suc n) place (omega (arith, enough)) (one_less (going PrevUnique place) k m at (λ i r lt there. after i r (omega (arith, lt)) there) (out_of_range PrevUnique place m e)) (λ i r lt there. before i r (omega (arith, lt)) there)
       ∙ sym (ap (λ xs. reverse (firsts_of_keys xs)) (left_front k m at e))
@@ -412,7 +412,7 @@ module _ (rows : List RowTree) (rising : AreRising rows) (range : Range) where
       let m = stands rows k (omega (arith, within)) in
       prev_unique_step k m.0 m.1 (λ f le. prev_unique_goes c f (omega (arith, le, most)) (omega (arith, le, within))) (includes range m.0.0) refl n place enough after before
 
-  pub visits_prev_unique : visited rows PrevUnique range ≡ reverse (firsts_of_keys (selected range rows))
+  pub visits_prev_unique : visited rows PrevUnique range ≡ reverse (firsts_of_keys (rows_in_range range rows))
   visits_prev_unique =
       prev_unique_goes (length rows) (length rows) (omega arith) (omega arith) (length rows) None (omega arith) (λ i r le at. absurd (omega (arith, le, slice_get_within rows i r at))) (λ i r lt at. refl)
-      ∙ ap (λ xs. reverse (firsts_of_keys (selected range xs))) (take_whole rows)
+      ∙ ap (λ xs. reverse (firsts_of_keys (rows_in_range range xs))) (take_whole rows)

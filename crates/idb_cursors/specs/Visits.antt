@@ -1,7 +1,7 @@
 -- What a cursor visits over members that do not change.
 --     visits                the members that it takes, turn by turn, so many turns at most
 --     visited               all that it takes, from the first turn on
---     selected              the members in range
+--     rows_in_range         the members in range
 --     firsts_of_keys        the first member of each key
 use Rattle.std.specs.Prelude.{ℕ, zero, suc, List, [], ◌∷◌, if◌then◌else◌, length, filter, None, option_map, unwrap_or, slice_get}
 use Rattle.std.specs.Option.{option_and_then}
@@ -26,8 +26,8 @@ visits (suc more) rows turn = unwrap_or (option_and_then (λ place. option_map (
 abbrev pub visited : List RowTree → Direction → Range → List RowTree
 visited rows direction range = visits (length rows) rows (first_turn direction range)
 
-abbrev pub selected : Range → List RowTree → List RowTree
-selected range rows = filter (λ member. includes range member.0) rows
+abbrev pub rows_in_range : Range → List RowTree → List RowTree
+rows_in_range range rows = filter (λ member. includes range member.0) rows
 
 -- those whose key is not that of the one before, which has this one
 abbrev pub firsts_after : KeyTree → List RowTree → List RowTree

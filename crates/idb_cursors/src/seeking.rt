@@ -156,7 +156,8 @@ fn is_reached<L: Ledger>(
     member: (&Key, &Key),
     steps: &mut Steps<L>,
 ) -> bool
-    ensures value { result ≡ is_reached direction (key_shown key.entry) (key_shown primary.entry) (row_shown member.entry) }
+    ensures value { result
+        ≡ is_reached direction (key_shown key.entry) (key_shown primary.entry) (row_shown member.entry) }
     ensures counted { steps.new ≤ steps.old + 2 }
 {
     match (key, primary) {
@@ -212,7 +213,8 @@ fn is_behind<R: RowView, L: Ledger>(
     steps: &mut Steps<L>,
 ) -> bool
     requires { place < length (R.rows rows.now) }
-    ensures value { option_map (is_behind (turn_seen turn.now)) (slice_get (R.rows rows.now) place) ≡ Some result }
+    ensures value { option_map (is_behind (turn_seen turn.now)) (slice_get (R.rows rows.now) place)
+        ≡ Some result }
     ensures counted { steps.new ≤ steps.old + 5 }
 {
     match rows.at(place) {
