@@ -26,8 +26,8 @@ pub fn turn_laws()
         → AreRising rows → turn.direction ≡ PrevUnique → next_place rows turn ≡ Some place
         → slice_get rows place ≡ Some member → slice_get rows other ≡ Some row
         → meets turn row ≡ true → is_le (key_cmp row.0 member.0) ≡ true }
-    ensures first_of_its_key { (rows : List RowTree) (turn : TurnData) (place other : ℕ) (member row : RowTree)
-        → turn.direction ≡ PrevUnique → next_place rows turn ≡ Some place
+    ensures first_of_its_key { (rows : List RowTree) (turn : TurnData) (place other : ℕ)
+        (member row : RowTree) → turn.direction ≡ PrevUnique → next_place rows turn ≡ Some place
         → slice_get rows place ≡ Some member → slice_get rows other ≡ Some row → row.0 ≡ member.0
         → place ≤ other }
 {}
