@@ -2,7 +2,7 @@
 --     put_fits, put_steps           the rows can be added, and keep the tables in step
 --     replace_steps                 the same of rows that take the place of others
 --     take_fits, take_steps         the same of rows that go
-use Rattle.std.proofs.Common.{◌≡◌, ℕ, ◌+◌, ◌≤◌, List, map, length, sym, ap, subst, ◌∙◌, Some, None, arith}
+use Rattle.std.proofs.Common.{◌≡◌, ℕ, ◌+◌, ◌≤◌, List, length, sym, ap, subst, Some, None, arith}
 use Rattle.std.proofs.lemmas.List.{length-map}
 use Rattle.std.specs.FinMap as finite
 use Rattle.clone_values.specs.Tree.{Tree}

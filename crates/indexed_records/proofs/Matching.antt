@@ -4,8 +4,7 @@
 --     can_add, added_in_step, removed_in_step, replaced_in_step       a record that comes, goes, or gets another value
 --     filled_in_step, taken_in_step, pushed_in_step, unplaced_in_step, inserted_in_step       indexes and tables that come and go
 --     sets_of, out_of_sets                  all tables taken out, and put back
-use Rattle.std.proofs.Common.{◌≡◌, ℕ, zero, suc, ◌+◌, ◌-◌, ◌<◌, ◌≤◌, List, [], ◌∷◌, ◌++◌, refl, sym, ap, subst, ◌∙◌, Option, Some, None, map, length, length-append, take, drop, insert, remove, slice_get, option_map, get_or, arith}
-use Rattle.std.proofs.lemmas.List.{length-map, length-take-le}
+use Rattle.std.proofs.Common.{◌≡◌, ℕ, zero, suc, ◌+◌, ◌<◌, ◌≤◌, List, [], ◌∷◌, ◌++◌, refl, sym, ap, ◌∙◌, Some, None, map, length, length-append, take, drop, insert, remove, slice_get, option_map, get_or, arith}
 use Rattle.std.proofs.lemmas.Option.{slice_get-get_or}
 use Rattle.std.specs.FinMap as finite
 use Rattle.std.specs.List.{AllByRecursion, flat_map}
@@ -13,7 +12,7 @@ use Rattle.clone_values.specs.Tree.{Tree}
 use Rattle.clone_values.specs.KeyTree.{KeyTree}
 use Rattle.key_order.specs.KeyOrder.{key_cmp}
 use Rattle.idb_schema.specs.declared.definitions.IndexInfo.{IndexInfo}
-use Rattle.index_tables.specs.Rows.{RowTree, RowSet, IndexRows, no_rows, has_row, among, with_rows, without_rows}
+use Rattle.index_tables.specs.Rows.{RowTree, RowSet, IndexRows, no_rows, among, with_rows, without_rows}
 use Rattle.index_tables.specs.RecordRows.{Records, rows_of_record, index_rows}
 use Rattle.index_tables.proofs.Laws.{rows_with, rows_over, rows_without, same_rows, has_no_row, has_without_rows}
 use Rattle.indexed_records.specs.Contents.{rows_in_indexes, rows_among, row_sets}

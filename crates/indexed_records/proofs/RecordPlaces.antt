@@ -1,11 +1,9 @@
 -- The records at the places of their order.
 --     record_found          what stands at a place is the record of its key
 --     record_there          at each place within stands a record
-use Rattle.std.proofs.Common.{◌≡◌, ℕ, zero, suc, ◌+◌, ◌-◌, ◌<◌, ◌≤◌, Bool, true, false, cond, ◌&&◌, T, List, [], ◌∷◌, ◌++◌, refl, sym, ap, ◌∙◌, Option, Some, None, map, take, drop, inl, inr, arith}
-use Rattle.std.proofs.lemmas.Option.{slice_get-map, slice_get_cases}
-use Rattle.std.specs.Prelude.{slice_get, option_map}
-use Rattle.std.specs.List.{filter_map}
-use Rattle.std.specs.Option.{option_and_then, option_to_list}
+use Rattle.std.proofs.Common.{◌≡◌, ℕ, zero, suc, ◌<◌, Bool, true, false, cond, ◌&&◌, T, List, [], ◌∷◌, refl, ap, ◌∙◌, Some, inl, inr, arith}
+use Rattle.std.proofs.lemmas.Option.{slice_get_cases}
+use Rattle.std.specs.Prelude.{slice_get}
 use Rattle.std.specs.declared.cmp.Ordering.{Ordering}
 use Rattle.std.specs.declared.cmp.Ordering.TheVariants.{Less, Equal, Greater}
 use Rattle.std.specs.Ordering.{ordering_reverse, is_lt, is_eq}
@@ -17,12 +15,7 @@ use Rattle.clone_values.specs.Tree.{Tree}
 use Rattle.clone_values.specs.KeyTree.{KeyTree}
 use Rattle.key_order.specs.KeyOrder.{key_cmp}
 use Rattle.key_order.proofs.Laws.{key_cmp_total}
-use Rattle.idb_keys.specs.declared.names.Over.{Over}
-use Rattle.idb_keys.specs.declared.names.Over.TheVariants.{Store}
 use Rattle.index_tables.specs.RecordRows.{Records}
-use Rattle.idb_schema.specs.declared.definitions.IndexInfo.{IndexInfo}
-use Rattle.index_tables.specs.Rows.{RowTree}
-use Rattle.indexed_records.specs.Reading.{members_in, first_primary, first_value}
 
 left : (a b : Bool) → T (a && b) → T a
 left true b h = tt

@@ -1,5 +1,4 @@
 use Rattle.std.proofs.Common.{arith, ◌∙◌, sym}
-use Rattle.clone_values.specs.View.{key_tree_of, tree_of}
 use Rattle.index_tables.proofs.Laws.{past_end}
 use Rattle.indexed_records.proofs.NewIndex.{rows_at_first, rows_grow}
 use Rattle.indexed_records.proofs.building.add_all.Goals as goal

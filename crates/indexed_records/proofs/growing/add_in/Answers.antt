@@ -1,4 +1,4 @@
-use Rattle.std.proofs.Common.{◌<◌, length, get_or, refl, ◌∙◌, sym, arith}
+use Rattle.std.proofs.Common.{◌<◌, length, refl, ◌∙◌, sym, arith}
 use Rattle.std.proofs.lemmas.Option.{slice_get-get_or}
 use Rattle.indexed_records.specs.Walks.{Adds, CanAdd}
 use Rattle.indexed_records.proofs.Walks.{walked_get, walked_on, walked_all, all_at, all_counted, next_at, next_left, none_next}

@@ -1,7 +1,5 @@
-use Rattle.std.proofs.Common.{◌≡◌, ◌-◌, ◌≤◌, ◌++◌, List, length}
-use Rattle.std.specs.List.{AllByRecursion}
+use Rattle.std.proofs.Common.{◌-◌, ◌≤◌, length}
 use Rattle.std.specs.Vec.{vec_capacity}
-use Rattle.index_tables.specs.Rows.{IndexRows, no_rows}
 use Rattle.indexed_records.proofs.Walks.{FilledOn}
 use Rattle.indexed_records.proofs.growing.fill.Given as goal
 

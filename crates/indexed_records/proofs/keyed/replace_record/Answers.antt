@@ -1,6 +1,6 @@
-use Rattle.std.proofs.Common.{◌≡◌, ◌∙◌, ap, sym, Some, arith}
+use Rattle.std.proofs.Common.{◌∙◌, ap, arith}
 use Rattle.std.specs.FinMap as finite
-use Rattle.clone_values.specs.View.{key_tree_of, tree_of}
+use Rattle.clone_values.specs.View.{tree_of}
 use Rattle.indexed_records.specs.View.{records_of}
 use Rattle.indexed_records.proofs.ByKey.{count_of, entry_at, of_value, value_at_place}
 use Rattle.indexed_records.proofs.keyed.replace_record.Goals as goal

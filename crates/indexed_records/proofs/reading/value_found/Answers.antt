@@ -1,4 +1,4 @@
-use Rattle.std.proofs.Common.{◌≡◌, ◌∙◌, sym, ap, Some}
+use Rattle.std.proofs.Common.{◌∙◌, sym, ap, Some}
 use Rattle.clone_values.specs.View.{tree_of}
 use Rattle.indexed_records.proofs.ByKey.{stands, lacks, same_value}
 use Rattle.indexed_records.proofs.reading.value_found.Goals as goal

@@ -1,5 +1,4 @@
-use Rattle.std.proofs.Common.{◌≡◌, ◌≤◌, subst, sym, ap, arith}
-use Rattle.std.specs.FinMap as finite
+use Rattle.std.proofs.Common.{◌≡◌, ◌≤◌, subst, sym, arith}
 use Rattle.clone_values.specs.View.{key_tree_of, tree_of}
 use Rattle.indexed_records.specs.Contents.{rows_in_indexes, rows_among, IsGapOf}
 use Rattle.indexed_records.proofs.Changes.{put_fits, put_steps}

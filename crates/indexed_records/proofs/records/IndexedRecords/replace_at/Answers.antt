@@ -2,7 +2,7 @@ use Rattle.std.proofs.Common.{◌≡◌, ◌<◌, ◌≤◌, Some, slice_get, sy
 use Rattle.std.specs.FinMap as finite
 use Rattle.clone_values.specs.Tree.{Tree}
 use Rattle.clone_values.specs.KeyTree.{KeyTree}
-use Rattle.clone_values.specs.View.{key_tree_of, tree_of}
+use Rattle.clone_values.specs.View.{tree_of}
 use Rattle.indexed_records.specs.Contents.{rows_in_indexes, rows_among}
 use Rattle.indexed_records.proofs.Changes.{put_fits, take_fits, replace_steps}
 use Rattle.indexed_records.proofs.RecordPlaces.{record_there, record_found}

@@ -2,7 +2,6 @@ use Rattle.std.proofs.Common.{◌≡◌, Some, slice_get, sym, subst}
 use Rattle.std.specs.FinMap as finite
 use Rattle.clone_values.specs.Tree.{Tree}
 use Rattle.clone_values.specs.KeyTree.{KeyTree}
-use Rattle.clone_values.specs.View.{key_tree_of, tree_of}
 use Rattle.indexed_records.specs.Contents.{rows_in_indexes}
 use Rattle.indexed_records.proofs.Changes.{take_fits, take_steps}
 use Rattle.indexed_records.proofs.records.IndexedRecords.take_out.Goals as goal
