@@ -1,0 +1,5 @@
+mod RisingLemmas
+mod LaneLemmas
+mod Places
+mod Keeping
+mod Starting
