@@ -1,5 +1,5 @@
 -- The lanes of a scope's items, item by item.
-use Rattle.std.proofs.Common.{◌≡◌, ℕ, zero, suc, ◌+◌, ◌<◌, ◌==◌, ◌||◌, not, Bool, true, false, List, [], ◌∷◌, ◌++◌, length, get_or, take, filter, arith, refl, ap, sym, ◌∙◌, inl, inr, if◌then◌else◌, add-one}
+use Rattle.std.proofs.Common.{◌≡◌, ℕ, zero, suc, ◌+◌, ◌<◌, ◌==◌, ◌||◌, Bool, true, false, List, [], ◌∷◌, length, get_or, take, arith, refl, ap, sym, ◌∙◌, inl, inr, if◌then◌else◌, add-one}
 use Rattle.std.proofs.lemmas.Bool.Decides.{eqb_tells}
 use Rattle.scope_desk.specs.Rising.{without, AreBelow}
 use Rattle.scope_desk.proofs.RisingLemmas.{left_alone, taken_back}

@@ -1,5 +1,5 @@
 -- Where a number stands among transactions that stand by number.
-use Rattle.std.proofs.Common.{◌≡◌, ◌≢◌, ℕ, zero, suc, ◌+◌, ◌<◌, ◌≤◌, ◌==◌, not, Bool, true, false, List, [], ◌∷◌, length, get_or, map, filter, position, remove, take, drop, Option, Some, None, cond, nat_lt, arith, refl, ap, sym, ◌∙◌, slice_get, add-one, inl, inr, is_some, unwrap_or, option_map}
+use Rattle.std.proofs.Common.{◌≡◌, ◌≢◌, ℕ, zero, suc, ◌+◌, ◌<◌, ◌≤◌, not, Bool, true, false, List, [], ◌∷◌, length, get_or, map, filter, position, remove, Option, Some, None, cond, arith, refl, ap, sym, ◌∙◌, slice_get, inl, inr, is_some, unwrap_or, option_map}
 use Rattle.std.specs.List.{find, position_or_len, list_any}
 use Rattle.std.proofs.lemmas.Bool.{ne_eqb, lt-ltb}
 use Rattle.std.proofs.Math.Dec.{eqb, ltb}
@@ -80,23 +80,23 @@ all_after n low (t ∷ ts) r h =
 
 pub without_it : (n low : ℕ) (ts : List Ticket) → IsRisingFrom low (numbers ts) → position_or_len (is_numbered n) ts < length ts → remove ts (position_or_len (is_numbered n) ts) ≡ filter (λ t. not (is_numbered n t)) ts
 without_it n low [] r l = absurd (omega arith)
-without_it n low (t ∷ ts) r l = elim (eqb_tells t.number n)
-    [ inl p ↦ rw p.0 (sym (all_after n (t.number + 1) ts r.1 (omega (arith, p.1))))
-    | inr p ↦
-        let more : 1 + position_or_len (is_numbered n) ts ≡ suc (position_or_len (is_numbered n) ts) = omega arith in
-        let within : 1 + position_or_len (is_numbered n) ts < suc (length ts) = rw p.0 at l in
-        rw (p.0, more) (ap (λ us. t ∷ us) (without_it n (t.number + 1) ts r.1 (omega (arith, within))))
-    ]
+without_it n low (t ∷ ts) r l = elim (eqb_tells t.number n) [
+  | inl p ↦ rw p.0 (sym (all_after n (t.number + 1) ts r.1 (omega (arith, p.1))))
+  | inr p ↦
+      let more : 1 + position_or_len (is_numbered n) ts ≡ suc (position_or_len (is_numbered n) ts) = omega arith in
+      let within : 1 + position_or_len (is_numbered n) ts < suc (length ts) = rw p.0 at l in
+      rw (p.0, more) (ap (λ us. t ∷ us) (without_it n (t.number + 1) ts r.1 (omega (arith, within))))
+]
 
 pub none_there : (n : ℕ) (ts : List Ticket) → position_or_len (is_numbered n) ts ≡ length ts → (find (is_numbered n) ts ≡ None) × (filter (λ t. not (is_numbered n t)) ts ≡ ts)
 none_there n [] e = (refl, refl)
-none_there n (t ∷ ts) e = elim (eqb_tells t.number n)
-    [ inl p ↦ let bad : 0 ≡ suc (length ts) = rw p.0 at e in absurd (omega (arith, bad))
-    | inr p ↦
-        let rest : 1 + position_or_len (is_numbered n) ts ≡ suc (length ts) = rw p.0 at e in
-        let ih = none_there n ts (omega (arith, rest)) in
-        rw p.0 (ih.0, ap (λ us. t ∷ us) ih.1)
-    ]
+none_there n (t ∷ ts) e = elim (eqb_tells t.number n) [
+  | inl p ↦ let bad : 0 ≡ suc (length ts) = rw p.0 at e in absurd (omega (arith, bad))
+  | inr p ↦
+      let rest : 1 + position_or_len (is_numbered n) ts ≡ suc (length ts) = rw p.0 at e in
+      let ih = none_there n ts (omega (arith, rest)) in
+      rw p.0 (ih.0, ap (λ us. t ∷ us) ih.1)
+]
 
 -- what a place found gives
 pub nobody : Ticket
@@ -119,3 +119,10 @@ not_found n ts e = none_there n ts (place_none n ts (sym e))
 pub read : {B : Type 0} (see : B → Ticket) (r : Option B) (ts : List Ticket) (i : ℕ) → i < length ts → is_some r ≡ ltb i (length ts) → ((d : Ticket) → unwrap_or (option_map see r) d ≡ get_or ts i d) → option_map see r ≡ slice_get ts i
 read see None ts i l e f = let t = lt-ltb i (length ts) l in cc
 read see (Some b) ts i l e f = let at : see b ≡ get_or ts i nobody = f nobody in rw at (sym (slice_get-get_or ts i nobody l))
+
+pub any_of : (n : ℕ) (ts : List Ticket) (o : Option Ticket) → find (is_numbered n) ts ≡ o → list_any (is_numbered n) ts ≡ is_some o
+any_of n [] o e = rw (← e) refl
+any_of n (t ∷ ts) o e = elim (eqb_tells t.number n) [
+  | inl p ↦ let here : Some t ≡ o = rw p.0 at e in rw (p.0, ← here) refl
+  | inr p ↦ let on : find (is_numbered n) ts ≡ o = rw p.0 at e in rw p.0 (any_of n ts o on)
+]

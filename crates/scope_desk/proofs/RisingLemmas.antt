@@ -1,6 +1,5 @@
 -- Numbers that rise: one more at the end, one less, and where one stands.
-use Rattle.std.proofs.Common.{◌≡◌, ◌≢◌, ℕ, zero, suc, ◌+◌, ◌<◌, ◌≤◌, ◌==◌, not, Bool, true, false, List, [], ◌∷◌, ◌++◌, length, get_or, take, drop, filter, remove, arith, refl, ap, sym, ◌∙◌, subst, nat_cmp, cond}
-use Rattle.std.specs.List.{AllByRecursion}
+use Rattle.std.proofs.Common.{◌≡◌, ◌≢◌, ℕ, zero, suc, ◌+◌, ◌<◌, ◌≤◌, Bool, true, false, List, [], ◌∷◌, ◌++◌, length, get_or, filter, remove, arith, refl, ap, sym, cond}
 use Rattle.std.proofs.lemmas.Bool.{ne_eqb}
 use Rattle.std.proofs.Math.Dec.{eqb}
 use borrow.Author.Tests.{eq-eqb}

@@ -1,18 +1,17 @@
 -- The least number ahead at the items of a scope is the first that blocks.
-use Rattle.std.proofs.Common.{◌≡◌, ℕ, zero, suc, ◌+◌, ◌<◌, ◌≤◌, ◌==◌, ◌&&◌, ◌||◌, not, nat_lt, Bool, true, false, List, [], ◌∷◌, ◌++◌, length, get_or, map, filter, slice_get, Option, Some, None, option_map, option_and_then, arith, refl, ap, sym, ◌∙◌, subst, inl, inr, if◌then◌else◌, cond, IfSome}
-use Rattle.std.specs.List.{list_any, find}
-use Rattle.std.proofs.lemmas.Bool.Decides.{eqb_tells, nat_tests}
-use Rattle.std.proofs.lemmas.Bool.{lt-ltb, ne_eqb}
+use Rattle.std.proofs.Common.{◌≡◌, ℕ, ◌+◌, ◌<◌, ◌≤◌, ◌&&◌, ◌||◌, nat_lt, Bool, true, false, List, [], ◌∷◌, slice_get, Option, Some, None, option_map, arith, refl, ap, ◌∙◌, subst, if◌then◌else◌, cond, IfSome}
+use Rattle.std.specs.List.{find}
+use Rattle.std.proofs.lemmas.Bool.Decides.{nat_tests}
+use Rattle.std.proofs.lemmas.Bool.{lt-ltb}
 use Rattle.std.proofs.Math.Dec.{ltb, eqb}
 use borrow.Author.Tests.{ltb-true, ltb-false, eq-eqb}
 use Rattle.scope_desk.specs.declared.tickets.Ticket.{Ticket}
 use Rattle.scope_desk.specs.declared.unfinished.MayStart.TheVariants.{Go}
-use Rattle.scope_desk.specs.Rising.{IsRisingFrom, AreBelow, without}
-use Rattle.scope_desk.specs.Starts.{Scopes, AreByNumber, writes, has_item, share_item, conflict, is_blocker, blocker_of, is_numbered, start_of, may_start, blocker_below}
-use Rattle.scope_desk.specs.Lanes.{lane_at, lesser, least_ahead, numbers_at, HasNumbers, AreKept}
+use Rattle.scope_desk.specs.Rising.{IsRisingFrom}
+use Rattle.scope_desk.specs.Starts.{Scopes, AreByNumber, writes, has_item, share_item, is_blocker, blocker_of, may_start, blocker_below}
+use Rattle.scope_desk.specs.Lanes.{lesser, least_ahead, numbers_at, HasNumbers, AreKept}
 use Rattle.scope_desk.proofs.Places.{numbers}
 use Rattle.scope_desk.proofs.Keeping.{rising_at}
-use Rattle.scope_desk.proofs.RisingLemmas.{lower}
 
 -- the least of the first numbers of these transactions at the items of a scope
 ahead : (Ticket → Bool) → List Ticket → List ℕ → ℕ → ℕ
@@ -144,7 +143,7 @@ found_ahead : (test : Ticket → Bool) (lanes : List (List ℕ)) (ts : List Tick
 found_ahead test lanes ts t h r e =
     let ahead_is : least_ahead lanes t.scope t.number ≡ first_of (find (blocks test t.scope t.number) ts) t.number = same_ahead test lanes ts t.scope t.number h ∙ first_ahead test t.scope t.number 1 ts r in
     rw ahead_is (below_of (find (blocks test t.scope t.number) ts) t.number (λ u f. and_left (ltb u.number t.number) _ (passes (blocks test t.scope t.number) ts u f))
-      ∙ ap (option_map (λ u. u.number)) (find_same (blocks test t.scope t.number) (is_blocker t) (λ u. ap (λ b. ltb u.number t.number && (share_item t.scope u.scope && b)) (e u)) ts))
+    ∙ ap (option_map (λ u. u.number)) (find_same (blocks test t.scope t.number) (is_blocker t) (λ u. ap (λ b. ltb u.number t.number && (share_item t.scope u.scope && b)) (e u)) ts))
 
 pub starts : (ts : List Ticket) (t : Ticket) (next : ℕ) (all writers : List (List ℕ)) → AreKept ts next all writers
     → blocker_below (if writes t.mode then least_ahead all t.scope t.number else least_ahead writers t.scope t.number) t.number ≡ blocker_of ts t

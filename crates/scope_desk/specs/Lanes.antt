@@ -4,7 +4,7 @@
 --     lesser, least_ahead   the least of the first numbers at the items of a scope
 --     numbers_at            the numbers of those transactions that pass a test and have the item
 --     AreKept               what the lanes and numbers of the unfinished transactions always meet
-use Rattle.std.specs.Prelude.{◌≡◌, ℕ, zero, suc, Bool, true, false, ◌&&◌, nat_lt, List, [], ◌∷◌, ◌++◌, map, filter, slice_get, if◌then◌else◌, Option, Some, None, unwrap_or, ◌⊎◌, ⊤}
+use Rattle.std.specs.Prelude.{◌≡◌, ℕ, Bool, true, ◌&&◌, nat_lt, List, [], ◌∷◌, ◌++◌, map, filter, slice_get, if◌then◌else◌, Option, Some, None, unwrap_or, ◌⊎◌}
 use Rattle.scope_desk.specs.declared.tickets.Ticket.{Ticket}
 use Rattle.scope_desk.specs.Rising.{without}
 use Rattle.scope_desk.specs.Starts.{AreByNumber, has_item, writes}

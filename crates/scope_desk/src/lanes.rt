@@ -76,12 +76,7 @@ fn widen(alloc: Global, lanes: &mut Vec<Lane>, item: usize) -> Result<(), NoMemo
 }
 
 /// Puts a number behind those of this item.
-fn enter_one(
-    alloc: Global,
-    lanes: &mut Vec<Lane>,
-    item: usize,
-    number: u64,
-) -> Result<(), NoMemory>
+fn enter_one(alloc: Global, lanes: &mut Vec<Lane>, item: usize, number: u64) -> Result<(), NoMemory>
     requires item { item < 65536 }
     requires greater { AreBelow number (lane_at lanes.old.items item) }
     ensures entered { OnOk result ((k : ℕ) → lane_at lanes.new.items k ≡ (if item == k then lane_at lanes.old.items k ++ number ∷ [] else lane_at lanes.old.items k)) }

@@ -1,5 +1,6 @@
 // The unfinished transactions (Indexed Database API 3.0, "Transactions" and "transaction lifetime").
 ghost use Rattle.std.specs.Prelude.{◌≡◌, ◌<◌, ◌+◌, ◌-◌, ◌^◌, ℕ, ◌&&◌, not, filter, if◌then◌else◌, [], ◌∷◌, ◌++◌, slice_get, option_map, OnOk, OnErr, IfOk, IfSome};
+ghost use Rattle.std.specs.List.{list_any};
 ghost use Rattle.scope_desk.specs.declared.unfinished.MayStart.TheVariants.{Go};
 ghost use Rattle.scope_desk.specs.Starts.{Scopes, created, finished, may_start, start_of, IsUnfinished, AreByNumber, blocker_below, blocker_of, is_numbered, has_item, writes};
 ghost use Rattle.scope_desk.specs.Rising.{AreBelow};
@@ -34,7 +35,7 @@ pub struct ScopeDesk {
 impl Model for ScopeDesk {
     ghost use Rattle.scope_desk.specs.Starts.{Scopes};
     ghost use Rattle.scope_desk.specs.Rising.{AreBelow};
-ghost use Rattle.scope_desk.specs.Lanes.{AreKept};
+    ghost use Rattle.scope_desk.specs.Lanes.{AreKept};
 
     ghost Value = { Scopes };
 
@@ -83,6 +84,16 @@ impl ScopeDesk {
         first_number(&self.tickets)
     }
 
+    /// Whether the number is that of an unfinished transaction.
+    pub fn has(&self, number: u64) -> bool
+        ensures { result ≡ list_any (is_numbered number) self.now.unfinished }
+    {
+        match ticket_of(&self.tickets, number) {
+            Some(_) => true,
+            None => false,
+        }
+    }
+
     /// A transaction with these items draws the next number. Where an item stands more than once, it counts once.
     pub fn create(&mut self, scope: &[u16], mode: Mode) -> Result<u64, NoMemory>
         requires { self.old.next < 2 ^ 64 - 1 }
@@ -110,7 +121,13 @@ impl ScopeDesk {
         ensures { result ≡ may_start self.now number }
     {
         match ticket_of(&self.tickets, number) {
-            Some(ticket) => start_of_ticket(&self.tickets, &self.all, &self.writers, self.next, ticket),
+            Some(ticket) => start_of_ticket(
+                &self.tickets,
+                &self.all,
+                &self.writers,
+                self.next,
+                ticket,
+            ),
             None => MayStart::Go,
         }
     }

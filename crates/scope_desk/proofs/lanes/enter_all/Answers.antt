@@ -1,6 +1,5 @@
-use Rattle.std.proofs.Common.{◌≡◌, ◌<◌, ◌∙◌, length, arith, take, false, sym, subst, Ok, Err, Result, OnErr}
+use Rattle.std.proofs.Common.{◌≡◌, ◌∙◌, take, false, sym, Ok, Err, Result, OnErr}
 use Rattle.idb_base.specs.declared.memory.NoMemory.{NoMemory}
-use Rattle.scope_desk.specs.Rising.{AreBelow}
 use Rattle.scope_desk.specs.Starts.{has_item}
 use Rattle.scope_desk.proofs.LaneLemmas.{not_yet, has_of_take}
 use Rattle.scope_desk.proofs.lanes.enter_all.Goals as goal

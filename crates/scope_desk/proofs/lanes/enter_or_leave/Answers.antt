@@ -1,4 +1,4 @@
-use Rattle.std.proofs.Common.{◌≡◌, ◌∙◌}
+use Rattle.std.proofs.Common.{◌∙◌}
 use Rattle.scope_desk.proofs.LaneLemmas.{put_back}
 use Rattle.scope_desk.proofs.lanes.enter_or_leave.Goals as goal
 

@@ -1,4 +1,4 @@
-use Rattle.std.proofs.Common.{◌≡◌, ℕ, ◌+◌, length}
+use Rattle.std.proofs.Common.{◌≡◌, ℕ, length}
 use Rattle.scope_desk.specs.Lanes.{lane_at}
 use Rattle.scope_desk.proofs.lanes.widen.Given as goal
 

@@ -1,4 +1,4 @@
-use Rattle.std.proofs.Common.{◌≡◌, ◌≢◌, ℕ, ◌<◌, ◌≤◌, ◌+◌, ◌-◌, ◌/◌, List, length, get_or, map, arith, sym, ◌∙◌}
+use Rattle.std.proofs.Common.{◌≡◌, ℕ, ◌<◌, ◌≤◌, ◌+◌, ◌-◌, ◌/◌, List, length, get_or, arith, sym, ◌∙◌}
 use Rattle.scope_desk.specs.declared.tickets.Ticket.{Ticket}
 use Rattle.scope_desk.specs.Rising.{IsRisingFrom}
 use Rattle.scope_desk.proofs.RisingLemmas.{in_order}

@@ -1,4 +1,4 @@
-use Rattle.std.proofs.Common.{◌≡◌, ◌≤◌, sym, ◌∙◌, arith}
+use Rattle.std.proofs.Common.{sym, ◌∙◌, arith}
 use Rattle.scope_desk.proofs.Places.{found, not_found, read}
 use Rattle.scope_desk.proofs.tickets.ticket_of.Goals as goal
 

@@ -1,4 +1,4 @@
-use Rattle.std.proofs.Common.{◌≡◌, ◌∙◌}
+use Rattle.std.proofs.Common.{◌∙◌}
 use Rattle.scope_desk.proofs.LaneLemmas.{undone}
 use Rattle.scope_desk.proofs.unfinished.enter_both.Goals as goal
 

@@ -1,4 +1,4 @@
-use Rattle.std.proofs.Common.{◌≡◌, sym, ◌∙◌}
+use Rattle.std.proofs.Common.{sym}
 use Rattle.scope_desk.proofs.Keeping.{kept_less, same_where_none}
 use Rattle.scope_desk.proofs.unfinished.leave.Goals as goal
 

@@ -12,4 +12,4 @@ pub returns-clause-kept : goal.returns-clause-kept
 returns-clause-kept c =
     let copied : c.from_vec.result ≡ c.args.scope.now = c.from_vec.ensures ∙ c.in_ok-copied.ensures.items in
     rw (c.in-Ok.ensures.items, c.in_ok-reserve.ensures.items, copied)
-      (kept_more c.args.tickets.now.items (record { number = c.args.number; mode = c.args.mode; scope = c.args.scope.now }) c.args.number _ _ _ _ refl c.requires c.in_ok-enter_both.ensures.all c.in_ok-enter_both.ensures.writers)
+    (kept_more c.args.tickets.now.items (record { number = c.args.number; mode = c.args.mode; scope = c.args.scope.now }) c.args.number _ _ _ _ refl c.requires c.in_ok-enter_both.ensures.all c.in_ok-enter_both.ensures.writers)

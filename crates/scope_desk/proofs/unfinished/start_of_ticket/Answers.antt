@@ -1,4 +1,4 @@
-use Rattle.std.proofs.Common.{◌≡◌, ◌∙◌, ap}
+use Rattle.std.proofs.Common.{◌∙◌, ap}
 use Rattle.scope_desk.specs.Starts.{start_of}
 use Rattle.scope_desk.proofs.Starting.{starts}
 use Rattle.scope_desk.proofs.unfinished.start_of_ticket.Goals as goal

@@ -1,4 +1,3 @@
-use Rattle.std.proofs.Common.{◌≡◌}
 use Rattle.scope_desk.proofs.Starting.{first_goes}
 use Rattle.scope_desk.proofs.unfinished.ScopeDesk.least.Goals as goal
 
