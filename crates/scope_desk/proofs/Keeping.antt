@@ -4,17 +4,17 @@ use Rattle.std.specs.List.{find}
 use Rattle.std.proofs.lemmas.Bool.Decides.{eqb_tells}
 use Rattle.std.proofs.Math.Dec.{eqb}
 use Rattle.scope_desk.specs.declared.tickets.Ticket.{Ticket}
-use Rattle.scope_desk.specs.Rising.{IsRisingFrom, AreBelow, without}
+use Rattle.scope_desk.specs.Rising.{IsRisingFrom, AreAllBelow, without_number}
 use Rattle.scope_desk.specs.Starts.{writes, has_item, is_numbered}
 use Rattle.scope_desk.specs.Lanes.{lane_at, entered, left, numbers_at, HasNumbers, AreKept}
 use Rattle.scope_desk.proofs.RisingLemmas.{lower, pushed, absent}
 use Rattle.scope_desk.proofs.Places.{numbers}
 
-pub below_at : (q : Ticket → Bool) (n : ℕ) (ts : List Ticket) → AreBelow n (numbers ts) → AreBelow n (numbers (filter q ts))
+pub below_at : (q : Ticket → Bool) (n : ℕ) (ts : List Ticket) → AreAllBelow n (numbers ts) → AreAllBelow n (numbers (filter q ts))
 below_at q n [] b = tt
 below_at q n (t ∷ ts) b =
-    let rest : AreBelow n (numbers (filter q ts)) = below_at q n ts b.1 in
-    elim (q t) as (λ v. AreBelow n (numbers (cond v (t ∷ filter q ts) (filter q ts)))) [ true ↦ (b.0, rest) | false ↦ rest ]
+    let rest : AreAllBelow n (numbers (filter q ts)) = below_at q n ts b.1 in
+    elim (q t) as (λ v. AreAllBelow n (numbers (cond v (t ∷ filter q ts) (filter q ts)))) [ true ↦ (b.0, rest) | false ↦ rest ]
 
 pub rising_at : (q : Ticket → Bool) (low : ℕ) (ts : List Ticket) → IsRisingFrom low (numbers ts) → IsRisingFrom low (numbers (filter q ts))
 rising_at q low [] r = tt
@@ -44,7 +44,7 @@ more_where : (q : Ticket → Bool) (ts : List Ticket) (t : Ticket) → numbers (
 more_where q [] t = by_itself (q t) t
 more_where q (u ∷ ts) t = kept_first (q u) (q t) u t (filter q (ts ++ t ∷ [])) (filter q ts) (more_where q ts t)
 
-below_push : (n : ℕ) (ns : List ℕ) → AreBelow n ns → AreBelow (n + 1) (ns ++ n ∷ [])
+below_push : (n : ℕ) (ns : List ℕ) → AreAllBelow n ns → AreAllBelow (n + 1) (ns ++ n ∷ [])
 below_push n [] b = (omega arith, tt)
 below_push n (m ∷ ms) b = (omega (arith, b.0), below_push n ms b.1)
 
@@ -67,15 +67,15 @@ kept_more ts t n all writers all' writers' e k f g = record {
 }
 
 -- ---- one less
-less_first : (n : ℕ) (b : Bool) (t : Ticket) (us vs : List Ticket) → eqb t.number n ≡ false → numbers us ≡ without n (numbers vs) → numbers (cond b (t ∷ us) us) ≡ without n (numbers (cond b (t ∷ vs) vs))
+less_first : (n : ℕ) (b : Bool) (t : Ticket) (us vs : List Ticket) → eqb t.number n ≡ false → numbers us ≡ without_number n (numbers vs) → numbers (cond b (t ∷ us) us) ≡ without_number n (numbers (cond b (t ∷ vs) vs))
 less_first n true t us vs o e = rw o (ap (λ ns. t.number ∷ ns) e)
 less_first n false t us vs o e = e
 
-gone_first : (n : ℕ) (b : Bool) (t : Ticket) (us vs : List Ticket) → eqb t.number n ≡ true → numbers us ≡ without n (numbers vs) → numbers us ≡ without n (numbers (cond b (t ∷ vs) vs))
+gone_first : (n : ℕ) (b : Bool) (t : Ticket) (us vs : List Ticket) → eqb t.number n ≡ true → numbers us ≡ without_number n (numbers vs) → numbers us ≡ without_number n (numbers (cond b (t ∷ vs) vs))
 gone_first n true t us vs o e = rw o e
 gone_first n false t us vs o e = e
 
-less_where : (q : Ticket → Bool) (n : ℕ) (ts : List Ticket) → numbers (filter q (filter (λ t. not (is_numbered n t)) ts)) ≡ without n (numbers (filter q ts))
+less_where : (q : Ticket → Bool) (n : ℕ) (ts : List Ticket) → numbers (filter q (filter (λ t. not (is_numbered n t)) ts)) ≡ without_number n (numbers (filter q ts))
 less_where q n [] = refl
 less_where q n (t ∷ ts) = elim (eqb_tells t.number n) [
   | inl p ↦ rw p.0 (gone_first n (q t) t (filter q (filter (λ u. not (is_numbered n u)) ts)) (filter q ts) p.0 (less_where q n ts))
@@ -83,11 +83,11 @@ less_where q n (t ∷ ts) = elim (eqb_tells t.number n) [
 ]
 
 -- where the transaction of the number fails the test, the list has no such number
-untouched_first : (n : ℕ) (b : Bool) (t : Ticket) (vs : List Ticket) → eqb t.number n ≡ false → without n (numbers vs) ≡ numbers vs → without n (numbers (cond b (t ∷ vs) vs)) ≡ numbers (cond b (t ∷ vs) vs)
+untouched_first : (n : ℕ) (b : Bool) (t : Ticket) (vs : List Ticket) → eqb t.number n ≡ false → without_number n (numbers vs) ≡ numbers vs → without_number n (numbers (cond b (t ∷ vs) vs)) ≡ numbers (cond b (t ∷ vs) vs)
 untouched_first n true t vs o e = rw o (ap (λ ns. t.number ∷ ns) e)
 untouched_first n false t vs o e = e
 
-untouched : (q : Ticket → Bool) (n low : ℕ) (ts : List Ticket) (t : Ticket) → IsRisingFrom low (numbers ts) → find (is_numbered n) ts ≡ Some t → q t ≡ false → without n (numbers (filter q ts)) ≡ numbers (filter q ts)
+untouched : (q : Ticket → Bool) (n low : ℕ) (ts : List Ticket) (t : Ticket) → IsRisingFrom low (numbers ts) → find (is_numbered n) ts ≡ Some t → q t ≡ false → without_number n (numbers (filter q ts)) ≡ numbers (filter q ts)
 untouched q n low [] t r f e = cc
 untouched q n low (u ∷ ts) t r f e = elim (eqb_tells u.number n) [
   | inl p ↦
@@ -101,7 +101,7 @@ untouched q n low (u ∷ ts) t r f e = elim (eqb_tells u.number n) [
 ]
 
 left_where : (b : Bool) (test : Ticket → Bool) (k n : ℕ) (ts : List Ticket) (t : Ticket) → has_item k t.scope ≡ b → IsRisingFrom 1 (numbers ts) → find (is_numbered n) ts ≡ Some t
-    → left n b (numbers_at test k ts) ≡ without n (numbers_at test k ts)
+    → left n b (numbers_at test k ts) ≡ without_number n (numbers_at test k ts)
 left_where true test k n ts t h r f = refl
 left_where false test k n ts t h r f = let fails : (has_item k t.scope && test t) ≡ false = rw h refl in sym (untouched (λ u. has_item k u.scope && test u) n 1 ts t r f fails)
 
@@ -126,5 +126,5 @@ same_where_none n (t ∷ ts) e = elim (eqb_tells t.number n) [
   | inr p ↦ let on : find (is_numbered n) ts ≡ None = rw p.0 at e in rw p.0 (ap (λ us. t ∷ us) (same_where_none n ts on))
 ]
 
-pub lanes_below : (test : Ticket → Bool) (lanes : List (List ℕ)) (ts : List Ticket) (n : ℕ) → HasNumbers test lanes ts → AreBelow n (numbers ts) → (k : ℕ) → AreBelow n (lane_at lanes k)
+pub lanes_below : (test : Ticket → Bool) (lanes : List (List ℕ)) (ts : List Ticket) (n : ℕ) → HasNumbers test lanes ts → AreAllBelow n (numbers ts) → (k : ℕ) → AreAllBelow n (lane_at lanes k)
 lanes_below test lanes ts n h b k = rw (h k) (below_at _ n ts b)

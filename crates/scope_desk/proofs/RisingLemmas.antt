@@ -3,13 +3,13 @@ use Rattle.std.proofs.Common.{◌≡◌, ◌≢◌, ℕ, zero, suc, ◌+◌, ◌
 use Rattle.std.proofs.lemmas.Bool.{ne_eqb}
 use Rattle.std.proofs.Math.Dec.{eqb}
 use borrow.Author.Tests.{eq-eqb}
-use Rattle.scope_desk.specs.Rising.{IsRisingFrom, AreBelow, without}
+use Rattle.scope_desk.specs.Rising.{IsRisingFrom, AreAllBelow, without_number}
 
 pub lower : (low less : ℕ) (ns : List ℕ) → less ≤ low → IsRisingFrom low ns → IsRisingFrom less ns
 lower low less [] l r = tt
 lower low less (n ∷ ns) l r = (omega (arith, r.0), r.1)
 
-pub pushed : (low : ℕ) (ns : List ℕ) (n : ℕ) → low ≤ n → IsRisingFrom low ns → AreBelow n ns → IsRisingFrom low (ns ++ n ∷ [])
+pub pushed : (low : ℕ) (ns : List ℕ) (n : ℕ) → low ≤ n → IsRisingFrom low ns → AreAllBelow n ns → IsRisingFrom low (ns ++ n ∷ [])
 pushed low [] n l r b = (l, tt)
 pushed low (m ∷ ms) n l r b = (r.0, pushed (m + 1) ms n (omega (arith, b.0)) r.1 b.1)
 
@@ -20,13 +20,13 @@ filtered p low (n ∷ ns) r =
     elim (p n) as (λ b. IsRisingFrom low (cond b (n ∷ filter p ns) (filter p ns))) [ true ↦ (r.0, rest) | false ↦ lower (n + 1) low _ (omega (arith, r.0)) rest ]
 
 -- ---- without a number
-pub absent : (low n : ℕ) (ns : List ℕ) → IsRisingFrom low ns → n < low → without n ns ≡ ns
+pub absent : (low n : ℕ) (ns : List ℕ) → IsRisingFrom low ns → n < low → without_number n ns ≡ ns
 absent low n [] r h = refl
 absent low n (m ∷ ms) r h =
     let other : eqb m n ≡ false = ne_eqb m n (λ e. omega (arith, e, r.0)) in
     rw other (ap (λ xs. m ∷ xs) (absent (m + 1) n ms r.1 (omega (arith, r.0))))
 
-pub never : (n : ℕ) (ns : List ℕ) → ((k : ℕ) → k < length ns → get_or ns k 0 ≢ n) → without n ns ≡ ns
+pub never : (n : ℕ) (ns : List ℕ) → ((k : ℕ) → k < length ns → get_or ns k 0 ≢ n) → without_number n ns ≡ ns
 never n [] h = refl
 never n (m ∷ ms) h =
     let other : eqb m n ≡ false = ne_eqb m n (h 0 (omega arith)) in
@@ -44,7 +44,7 @@ in_order low (n ∷ ns) r zero (suc j) l k = omega (arith, at_least (n + 1) ns j
 in_order low (n ∷ ns) r (suc i) zero l k = absurd (omega arith)
 in_order low (n ∷ ns) r (suc i) (suc j) l k = in_order (n + 1) ns r.1 i j (omega arith) (omega arith)
 
-pub taken_out : (low n : ℕ) (ns : List ℕ) (i : ℕ) → IsRisingFrom low ns → i < length ns → get_or ns i 0 ≡ n → remove ns i ≡ without n ns
+pub taken_out : (low n : ℕ) (ns : List ℕ) (i : ℕ) → IsRisingFrom low ns → i < length ns → get_or ns i 0 ≡ n → remove ns i ≡ without_number n ns
 taken_out low n [] i r l e = absurd (omega arith)
 taken_out low n (m ∷ ms) zero r l e =
     let same : eqb m n ≡ true = eq-eqb m n e in
@@ -55,23 +55,23 @@ taken_out low n (m ∷ ms) (suc i) r l e =
     rw other (ap (λ xs. m ∷ xs) (taken_out (m + 1) n ms i r.1 (omega arith) e))
 
 -- ---- what is below an end
-pub below_more : (end more : ℕ) (ns : List ℕ) → end ≤ more → AreBelow end ns → AreBelow more ns
+pub below_more : (end more : ℕ) (ns : List ℕ) → end ≤ more → AreAllBelow end ns → AreAllBelow more ns
 below_more end more [] l b = tt
 below_more end more (n ∷ ns) l b = (omega (arith, b.0), below_more end more ns l b.1)
 
-pub below_filtered : (p : ℕ → Bool) (end : ℕ) (ns : List ℕ) → AreBelow end ns → AreBelow end (filter p ns)
+pub below_filtered : (p : ℕ → Bool) (end : ℕ) (ns : List ℕ) → AreAllBelow end ns → AreAllBelow end (filter p ns)
 below_filtered p end [] b = tt
 below_filtered p end (n ∷ ns) b =
-    let rest : AreBelow end (filter p ns) = below_filtered p end ns b.1 in
-    elim (p n) as (λ b. AreBelow end (cond b (n ∷ filter p ns) (filter p ns))) [ true ↦ (b.0, rest) | false ↦ rest ]
+    let rest : AreAllBelow end (filter p ns) = below_filtered p end ns b.1 in
+    elim (p n) as (λ b. AreAllBelow end (cond b (n ∷ filter p ns) (filter p ns))) [ true ↦ (b.0, rest) | false ↦ rest ]
 
-pub left_alone : (n : ℕ) (ns : List ℕ) → AreBelow n ns → without n ns ≡ ns
+pub left_alone : (n : ℕ) (ns : List ℕ) → AreAllBelow n ns → without_number n ns ≡ ns
 left_alone n [] b = refl
 left_alone n (m ∷ ms) b =
     let other : eqb m n ≡ false = ne_eqb m n (λ e. omega (arith, e, b.0)) in
     rw other (ap (λ xs. m ∷ xs) (left_alone n ms b.1))
 
-pub taken_back : (n : ℕ) (ns : List ℕ) → AreBelow n ns → without n (ns ++ n ∷ []) ≡ ns
+pub taken_back : (n : ℕ) (ns : List ℕ) → AreAllBelow n ns → without_number n (ns ++ n ∷ []) ≡ ns
 taken_back n [] b = let same : eqb n n ≡ true = eq-eqb n n refl in rw same refl
 taken_back n (m ∷ ms) b =
     let other : eqb m n ≡ false = ne_eqb m n (λ e. omega (arith, e, b.0)) in

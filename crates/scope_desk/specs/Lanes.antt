@@ -6,7 +6,7 @@
 --     AreKept               what the lanes and numbers of the unfinished transactions always meet
 use Rattle.std.specs.Prelude.{◌≡◌, ℕ, Bool, true, ◌&&◌, nat_lt, List, [], ◌∷◌, ◌++◌, map, filter, slice_get, if◌then◌else◌, Option, Some, None, unwrap_or, ◌⊎◌}
 use Rattle.scope_desk.specs.declared.tickets.Ticket.{Ticket}
-use Rattle.scope_desk.specs.Rising.{without}
+use Rattle.scope_desk.specs.Rising.{without_number}
 use Rattle.scope_desk.specs.Starts.{AreByNumber, has_item, writes}
 
 -- the numbers at an item
@@ -17,7 +17,7 @@ abbrev pub entered : ℕ → Bool → List ℕ → List ℕ
 entered number has ns = if has then ns ++ number ∷ [] else ns
 
 abbrev pub left : ℕ → Bool → List ℕ → List ℕ
-left number has ns = if has then without number ns else ns
+left number has ns = if has then without_number number ns else ns
 
 -- the lane is as before, or the number came to it, which has the item
 abbrev pub IsEnteredOrNot : ℕ → Bool → List ℕ → List ℕ → Type 0

@@ -1,7 +1,7 @@
 -- Lists of numbers that rise strictly.
 --     IsRisingFrom, IsRising        each number is above the one before it, the first at least this one
---     AreBelow              each number is below this one
---     without               the list without a number
+--     AreAllBelow           each number is below this one
+--     without_number        the list without it
 use Rattle.std.specs.Prelude.{ℕ, ◌+◌, ◌≤◌, ◌<◌, not, ◌==◌, List, [], ◌∷◌, filter, ⊤}
 use Rattle.std.specs.List.{AllByRecursion}
 
@@ -15,9 +15,9 @@ abbrev pub IsRising : List ℕ → Type 0
 IsRising ns = IsRisingFrom 0 ns
 
 -- each is below this one
-abbrev pub AreBelow : ℕ → List ℕ → Type 0
-AreBelow end ns = AllByRecursion (λ n. n < end) ns
+abbrev pub AreAllBelow : ℕ → List ℕ → Type 0
+AreAllBelow end ns = AllByRecursion (λ n. n < end) ns
 
 -- without this number
-abbrev pub without : ℕ → List ℕ → List ℕ
-without n ns = filter (λ m. not (m == n)) ns
+abbrev pub without_number : ℕ → List ℕ → List ℕ
+without_number n ns = filter (λ m. not (m == n)) ns

@@ -12,7 +12,7 @@ use Rattle.std.specs.Prelude.{◌≡◌, ℕ, ◌+◌, ◌≤◌, Bool, true, fa
 use Rattle.std.specs.List.{list_any, find}
 use Rattle.idb_keys.specs.declared.names.Mode.{Mode}
 use Rattle.idb_keys.specs.declared.names.Mode.TheVariants as mode
-use Rattle.scope_desk.specs.Rising.{IsRisingFrom, AreBelow}
+use Rattle.scope_desk.specs.Rising.{IsRisingFrom, AreAllBelow}
 use Rattle.scope_desk.specs.declared.tickets.Ticket.{Ticket}
 use Rattle.scope_desk.specs.declared.unfinished.MayStart.{MayStart}
 use Rattle.scope_desk.specs.declared.unfinished.MayStart.TheVariants.{Go, NotYet}
@@ -75,7 +75,7 @@ IsUnfinished s number = list_any (is_numbered number) s.unfinished ≡ true
 pub record AreByNumber (s : Scopes) : Type 0 where
   pub some : 1 ≤ s.next
   pub rising : IsRisingFrom 1 (map (λ t. t.number) s.unfinished)
-  pub drawn : AreBelow s.next (map (λ t. t.number) s.unfinished)
+  pub drawn : AreAllBelow s.next (map (λ t. t.number) s.unfinished)
 
 -- this number where it is below the other
 abbrev pub blocker_below : ℕ → ℕ → Option ℕ

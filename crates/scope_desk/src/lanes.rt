@@ -1,6 +1,6 @@
 // The numbers of the unfinished transactions that have an item in their scope, one list for each item.
 ghost use Rattle.std.specs.Prelude.{◌≡◌, ◌<◌, ◌++◌, ◌∷◌, [], ℕ, length, slice_get, drop, Bool, true, if◌then◌else◌, ◌==◌, OnOk, OnErr, ◌⊎◌};
-ghost use Rattle.scope_desk.specs.Rising.{without, AreBelow};
+ghost use Rattle.scope_desk.specs.Rising.{without_number, AreAllBelow};
 ghost use Rattle.scope_desk.specs.Starts.{has_item};
 ghost use Rattle.scope_desk.specs.Lanes.{lane_at, entered, left, least_ahead, IsEnteredOrNot};
 
@@ -45,7 +45,7 @@ impl Lane {
 
     /// Puts a number behind these, which are smaller.
     pub fn enter(&mut self, number: u64) -> Result<(), NoMemory>
-        requires { AreBelow number self.old }
+        requires { AreAllBelow number self.old }
         ensures entered { OnOk result (self.new ≡ self.old ++ number ∷ []) }
         ensures unchanged { OnErr result (self.new ≡ self.old) }
     {
@@ -55,7 +55,7 @@ impl Lane {
 
     /// Takes the number out, where it is here. It halves; the numbers of the shorter side move.
     pub fn leave(&mut self, number: u64)
-        ensures { self.new ≡ without number self.old }
+        ensures { self.new ≡ without_number number self.old }
     {
         if let Ok(place) = self.numbers.binary_search(&number) {
             self.numbers.remove(place);
@@ -78,8 +78,9 @@ fn widen(alloc: Global, lanes: &mut Vec<Lane>, item: usize) -> Result<(), NoMemo
 /// Puts a number behind those of this item.
 fn enter_one(alloc: Global, lanes: &mut Vec<Lane>, item: usize, number: u64) -> Result<(), NoMemory>
     requires item { item < 65536 }
-    requires greater { AreBelow number (lane_at lanes.old.items item) }
-    ensures entered { OnOk result ((k : ℕ) → lane_at lanes.new.items k ≡ (if item == k then lane_at lanes.old.items k ++ number ∷ [] else lane_at lanes.old.items k)) }
+    requires greater { AreAllBelow number (lane_at lanes.old.items item) }
+    ensures entered { OnOk result ((k : ℕ) → lane_at lanes.new.items k ≡ (if item == k
+        then lane_at lanes.old.items k ++ number ∷ [] else lane_at lanes.old.items k)) }
     ensures unchanged { OnErr result ((k : ℕ) → lane_at lanes.new.items k ≡ lane_at lanes.old.items k) }
 {
     widen(alloc, lanes, item)?;
@@ -94,9 +95,11 @@ fn enter_all(
     scope: &[u16],
     number: u64,
 ) -> Result<(), NoMemory>
-    requires { (k : ℕ) → AreBelow number (lane_at lanes.old.items k) }
-    ensures entered { OnOk result ((k : ℕ) → lane_at lanes.new.items k ≡ entered number (has_item k scope.now) (lane_at lanes.old.items k)) }
-    ensures some { OnErr result ((k : ℕ) → IsEnteredOrNot number (has_item k scope.now) (lane_at lanes.old.items k) (lane_at lanes.new.items k)) }
+    requires { (k : ℕ) → AreAllBelow number (lane_at lanes.old.items k) }
+    ensures entered { OnOk result ((k : ℕ) → lane_at lanes.new.items k
+        ≡ entered number (has_item k scope.now) (lane_at lanes.old.items k)) }
+    ensures some { OnErr result ((k : ℕ) → IsEnteredOrNot number
+        (has_item k scope.now) (lane_at lanes.old.items k) (lane_at lanes.new.items k)) }
 {
     for (i, item) in scope.iter().enumerate() {
         if !scope[..i].contains(item) {
@@ -108,7 +111,8 @@ fn enter_all(
 
 /// Takes the number out of this item's lane, where it is there.
 fn leave_one(lanes: &mut Vec<Lane>, item: usize, number: u64)
-    ensures { (k : ℕ) → lane_at lanes.new.items k ≡ (if item == k then without number (lane_at lanes.old.items k) else lane_at lanes.old.items k) }
+    ensures { (k : ℕ) → lane_at lanes.new.items k ≡ (if item == k
+        then without_number number (lane_at lanes.old.items k) else lane_at lanes.old.items k) }
 {
     if item < lanes.len() {
         let lane = &mut lanes[item];
@@ -118,7 +122,8 @@ fn leave_one(lanes: &mut Vec<Lane>, item: usize, number: u64)
 
 /// Takes the number out of the lane of each item of the scope.
 pub(crate) fn leave_all(lanes: &mut Vec<Lane>, scope: &[u16], number: u64)
-    ensures { (k : ℕ) → lane_at lanes.new.items k ≡ left number (has_item k scope.now) (lane_at lanes.old.items k) }
+    ensures { (k : ℕ) → lane_at lanes.new.items k ≡ left number
+        (has_item k scope.now) (lane_at lanes.old.items k) }
 {
     for item in scope {
         leave_one(lanes, usize::from(*item), number);
@@ -132,8 +137,9 @@ pub(crate) fn enter_or_leave(
     scope: &[u16],
     number: u64,
 ) -> Result<(), NoMemory>
-    requires { (k : ℕ) → AreBelow number (lane_at lanes.old.items k) }
-    ensures entered { OnOk result ((k : ℕ) → lane_at lanes.new.items k ≡ entered number (has_item k scope.now) (lane_at lanes.old.items k)) }
+    requires { (k : ℕ) → AreAllBelow number (lane_at lanes.old.items k) }
+    ensures entered { OnOk result ((k : ℕ) → lane_at lanes.new.items k
+        ≡ entered number (has_item k scope.now) (lane_at lanes.old.items k)) }
     ensures unchanged { OnErr result ((k : ℕ) → lane_at lanes.new.items k ≡ lane_at lanes.old.items k) }
 {
     match enter_all(alloc, lanes, scope, number) {

@@ -6,5 +6,6 @@ ghost use Rattle.scope_desk.specs.Starts.{Scopes, AreByNumber, may_start};
 
 /// The least unfinished transaction may always start.
 pub fn start_laws()
-    ensures { (s : Scopes) (t : Ticket) (ts : List Ticket) → AreByNumber s → s.unfinished ≡ t ∷ ts → may_start s t.number ≡ Go }
+    ensures { (s : Scopes) (t : Ticket) (ts : List Ticket) → AreByNumber s → s.unfinished ≡ t ∷ ts
+        → may_start s t.number ≡ Go }
 {}

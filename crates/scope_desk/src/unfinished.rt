@@ -3,7 +3,7 @@ ghost use Rattle.std.specs.Prelude.{◌≡◌, ◌<◌, ◌+◌, ◌-◌, ◌^�
 ghost use Rattle.std.specs.List.{list_any};
 ghost use Rattle.scope_desk.specs.declared.unfinished.MayStart.TheVariants.{Go};
 ghost use Rattle.scope_desk.specs.Starts.{Scopes, created, finished, may_start, start_of, IsUnfinished, AreByNumber, blocker_below, blocker_of, is_numbered, has_item, writes};
-ghost use Rattle.scope_desk.specs.Rising.{AreBelow};
+ghost use Rattle.scope_desk.specs.Rising.{AreAllBelow};
 ghost use Rattle.scope_desk.specs.Lanes.{AreKept, lane_at, entered, least_ahead};
 
 use crate::lanes::{Lane, enter_or_leave, least_ahead, leave_all};
@@ -34,7 +34,7 @@ pub struct ScopeDesk {
 
 impl Model for ScopeDesk {
     ghost use Rattle.scope_desk.specs.Starts.{Scopes};
-    ghost use Rattle.scope_desk.specs.Rising.{AreBelow};
+    ghost use Rattle.scope_desk.specs.Rising.{AreAllBelow};
     ghost use Rattle.scope_desk.specs.Lanes.{AreKept};
 
     ghost Value = { Scopes };
@@ -163,7 +163,9 @@ fn start_of_ticket(
 
 /// The least number ahead of a transaction at its items; a reader looks at writers alone.
 fn least_for(all: &Vec<Lane>, writers: &Vec<Lane>, ticket: &Ticket) -> u64
-    ensures { result ≡ (if writes ticket.now.mode then least_ahead all.now.items ticket.now.scope ticket.now.number else least_ahead writers.now.items ticket.now.scope ticket.now.number) }
+    ensures { result ≡ (if writes ticket.now.mode
+        then least_ahead all.now.items ticket.now.scope ticket.now.number
+        else least_ahead writers.now.items ticket.now.scope ticket.now.number) }
 {
     let scope = ticket.scope.as_slice();
     if writes(ticket.mode) {
@@ -212,7 +214,8 @@ fn put_in(
     mode: Mode,
 ) -> Result<(), NoMemory>
     requires { AreKept tickets.old.items number all.old.items writers.old.items }
-    ensures stored { OnOk result (tickets.new.items ≡ tickets.old.items ++ record { number = number; mode = mode; scope = scope.now } ∷ []) }
+    ensures stored { OnOk result (tickets.new.items
+        ≡ tickets.old.items ++ record { number = number; mode = mode; scope = scope.now } ∷ []) }
     ensures kept { OnOk result (AreKept tickets.new.items (number + 1) all.new.items writers.new.items) }
     ensures unchanged { OnErr result (tickets.new.items ≡ tickets.old.items) }
     ensures kept_else { OnErr result (AreKept tickets.new.items number all.new.items writers.new.items) }
@@ -240,12 +243,15 @@ fn enter_both(
     scope: &[u16],
     mode: Mode,
 ) -> Result<(), NoMemory>
-    requires all { (k : ℕ) → AreBelow number (lane_at all.old.items k) }
-    requires writers { (k : ℕ) → AreBelow number (lane_at writers.old.items k) }
-    ensures all { OnOk result ((k : ℕ) → lane_at all.new.items k ≡ entered number (has_item k scope.now) (lane_at all.old.items k)) }
-    ensures writers { OnOk result ((k : ℕ) → lane_at writers.new.items k ≡ entered number (has_item k scope.now && writes mode) (lane_at writers.old.items k)) }
+    requires all { (k : ℕ) → AreAllBelow number (lane_at all.old.items k) }
+    requires writers { (k : ℕ) → AreAllBelow number (lane_at writers.old.items k) }
+    ensures all { OnOk result ((k : ℕ) → lane_at all.new.items k
+        ≡ entered number (has_item k scope.now) (lane_at all.old.items k)) }
+    ensures writers { OnOk result ((k : ℕ) → lane_at writers.new.items k
+        ≡ entered number (has_item k scope.now && writes mode) (lane_at writers.old.items k)) }
     ensures all_else { OnErr result ((k : ℕ) → lane_at all.new.items k ≡ lane_at all.old.items k) }
-    ensures writers_else { OnErr result ((k : ℕ) → lane_at writers.new.items k ≡ lane_at writers.old.items k) }
+    ensures writers_else { OnErr result ((k : ℕ) → lane_at writers.new.items k
+        ≡ lane_at writers.old.items k) }
 {
     enter_or_leave(alloc, all, scope, number)?;
     match enter_if(alloc, writers, scope, number, writes(mode)) {
@@ -265,8 +271,9 @@ fn enter_if(
     number: u64,
     enters: bool,
 ) -> Result<(), NoMemory>
-    requires { (k : ℕ) → AreBelow number (lane_at lanes.old.items k) }
-    ensures entered { OnOk result ((k : ℕ) → lane_at lanes.new.items k ≡ entered number (has_item k scope.now && enters) (lane_at lanes.old.items k)) }
+    requires { (k : ℕ) → AreAllBelow number (lane_at lanes.old.items k) }
+    ensures entered { OnOk result ((k : ℕ) → lane_at lanes.new.items k
+        ≡ entered number (has_item k scope.now && enters) (lane_at lanes.old.items k)) }
     ensures unchanged { OnErr result ((k : ℕ) → lane_at lanes.new.items k ≡ lane_at lanes.old.items k) }
 {
     if enters {
