@@ -2,7 +2,7 @@
 --     added_back, added_can             a record that came
 --     removed_back, removed_can         one that went
 --     replaced_back, replaced_can       one that got another value
-use Rattle.std.specs.Prelude.{◌≡◌, ℕ, List, Some, None}
+use Rattle.std.specs.Prelude.{◌≡◌, List, Some, None}
 use Rattle.std.proofs.Common.{sym, ap, ◌∙◌}
 use Rattle.std.specs.FinMap.{get, insert, remove}
 use Rattle.clone_values.specs.Tree.{Tree}

@@ -1,8 +1,8 @@
 -- What all changes share: where a change was logged, the places of the past are kept.
 --     keeps_logged          the change came after memory was taken
-use Rattle.std.specs.Prelude.{◌≡◌, List, [], ◌∷◌, ◌++◌, refl}
+use Rattle.std.specs.Prelude.{◌≡◌, [], ◌∷◌, ◌++◌}
 use Rattle.std.proofs.Common.{◌∙◌}
-use Rattle.object_stores.specs.Store.{Content, KeepsPlaces}
+use Rattle.object_stores.specs.Store.{KeepsPlaces}
 use Rattle.object_stores.specs.Parts.{content_in, past_in}
 use Rattle.object_stores.specs.declared.changes.Parts.{Parts}
 use Rattle.object_stores.proofs.Logged.{past_again}

@@ -3,22 +3,18 @@
 --     found_key, found_depth        a key that the path gives is well formed, and at most 100 deep
 --     number_fits, injected_fits    a generated one, beside the value and in it
 --     noted_current, next_current   the generator's number stays in its range
-use Rattle.std.specs.Prelude.{◌≡◌, ℕ, ◌+◌, ◌<◌, ◌≤◌, Bool, true, false, pos, Option, Some, None, IfSome, refl}
-use Rattle.std.proofs.Common.{sym, ap, ◌∙◌, subst, arith}
+use Rattle.std.specs.Prelude.{◌≡◌, ℕ, ◌≤◌, Bool, true, false, Option, Some, None, IfSome, refl}
+use Rattle.std.proofs.Common.{sym, ◌∙◌, subst}
 use Rattle.idb_base.specs.declared.limits.TheConstants.{GREATEST_DEPTH}
 use Rattle.clone_values.specs.Tree.{Tree, undefined, null, boolean, int, text, date, bytes, array, object, map_object, set_object, function}
-use Rattle.clone_values.specs.KeyTree.{KeyTree, number}
+use Rattle.clone_values.specs.KeyTree.{KeyTree}
 use Rattle.clone_values.specs.KeyValues.{IsKey, key_depth}
-use Rattle.clone_values.specs.Values.{IsCloneable}
-use Rattle.clone_values.specs.WellFormed.{IsValue}
-use Rattle.clone_values.specs.declared.key_types.Key.{Key}
 use Rattle.clone_values.specs.declared.path_types.PathSpec.{PathSpec}
-use Rattle.clone_values.specs.View.{key_tree_of}
 use Rattle.key_paths.specs.Conversion.{key_of}
-use Rattle.key_paths.specs.Evaluation.{Extract, AreKeys, one, failure, one_or_invalid, converted, extracted_from, evaluated, extracted}
+use Rattle.key_paths.specs.Evaluation.{AreKeys, one, failure, one_or_invalid, converted, extracted_from, evaluated, extracted}
 use Rattle.key_generators.specs.Generators.{IsGenerator, after_key}
 use Rattle.object_stores.specs.IsStore.{IsStored, IsCurrent}
-use Rattle.object_stores.specs.Storing.{noted, in_line, ComesWithKey, CanStore}
+use Rattle.object_stores.specs.Storing.{ComesWithKey, CanStore}
 
 pub given_fits : (path : Option PathSpec) (auto : Bool) (value : Tree) (key : Option KeyTree) (k : KeyTree) → key ≡ Some k → CanStore path auto value key → IsStored k value
 given_fits path auto value key k is can =

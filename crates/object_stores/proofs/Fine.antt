@@ -3,8 +3,8 @@
 --     fine_records                      other records of the same store
 --     fine_insert, fine_remove, fine_empty      a record comes or goes;  all go
 --     fine_index, fine_no_index         an index comes, or goes
-use Rattle.std.specs.Prelude.{◌≡◌, ℕ, true, false, cond, ◌++◌, ◌∷◌, [], Some, None, refl}
-use Rattle.std.proofs.Common.{sym, ap, ◌∙◌, subst}
+use Rattle.std.specs.Prelude.{◌≡◌, ℕ, true, false, cond, Some, None, refl}
+use Rattle.std.proofs.Common.{sym, ◌∙◌, subst}
 use Rattle.std.specs.Ordering.{is_eq}
 use Rattle.std.specs.Cmp.{Equal-is}
 use Rattle.std.specs.FinMap.{get, insert, remove, empty, get-insert, get-remove, get-empty}

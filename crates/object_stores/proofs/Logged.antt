@@ -1,5 +1,5 @@
 -- A change that was logged, and one that is undone.
-use Rattle.std.specs.Prelude.{◌≡◌, ℕ, ◌+◌, ◌<◌, ◌≤◌, Bool, true, false, cond, List, [], ◌∷◌, ◌++◌, length, reverse, Option, Some, None, ◌⊎◌, refl}
+use Rattle.std.specs.Prelude.{◌≡◌, ℕ, ◌≤◌, true, false, cond, List, [], ◌∷◌, ◌++◌, length, reverse, Some, None, ◌⊎◌, refl}
 use Rattle.std.proofs.Common.{sym, ap, ◌∙◌, subst, inl, inr, suc, zero, arith}
 use Rattle.std.proofs.lemmas.List.{reverse-append, length-append, length-reverse}
 use Rattle.std.specs.Ordering.{is_eq}

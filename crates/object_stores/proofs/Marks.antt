@@ -7,8 +7,8 @@
 --     settled_anew, settled_undone  the store at the last settle, where the past was forgotten or cut
 use Rattle.std.specs.Prelude.{◌≡◌, ℕ, ◌≤◌, Bool, List, [], length, take, refl}
 use Rattle.std.proofs.Common.{sym, ap, ◌∙◌, subst, arith}
-use Rattle.object_stores.specs.Store.{Store, Content, Kept, unnumbered, numbered, content_at, at_mark, KeepsPlaces, KeepsPast}
-use Rattle.object_stores.specs.IsStore.{IsCurrent, IsStoreContent, IsStore}
+use Rattle.object_stores.specs.Store.{Content, Kept, unnumbered, numbered, content_at, at_mark, KeepsPlaces, KeepsPast}
+use Rattle.object_stores.specs.IsStore.{IsCurrent, IsStore}
 use Rattle.object_stores.specs.Parts.{content_in, log_in, past_in, kept_in, IsSound}
 use Rattle.object_stores.specs.declared.changes.Parts.{Parts}
 use Rattle.object_stores.proofs.Past.{at_end, cut_at}

@@ -1,7 +1,7 @@
 -- The newest change, taken off the log and undone.
-use Rattle.std.specs.Prelude.{◌≡◌, ◌≢◌, is_some, ℕ, ◌+◌, ◌<◌, ◌≤◌, List, [], ◌∷◌, ◌++◌, length, reverse, Option, Some, None, slice_get, unwrap_or, refl}
+use Rattle.std.specs.Prelude.{◌≡◌, ◌≢◌, is_some, ℕ, ◌<◌, List, [], ◌∷◌, ◌++◌, reverse, Some, None, slice_get, unwrap_or}
 use Rattle.std.proofs.Common.{sym, ap, ◌∙◌, subst, inl, inr, arith}
-use Rattle.std.specs.FinMap.{get, insert, remove, entries, len, len-entries}
+use Rattle.std.specs.FinMap.{entries, len, len-entries}
 use Rattle.clone_values.specs.Tree.{Tree}
 use Rattle.clone_values.specs.KeyTree.{KeyTree}
 use Rattle.std.proofs.lemmas.Option.{slice_get_within, slice_get_cases}

@@ -2,7 +2,7 @@
 --     member_later, members_rise    of two members the earlier one is less
 --     row_shown_by_key              a row is shown exactly where the record of its primary key gives its key
 --     first_in_range, first_outside, first_missing      what the range selects first
-use Rattle.std.proofs.Common.{◌≡◌, ℕ, zero, suc, ◌+◌, ◌-◌, ◌<◌, ◌≤◌, Bool, true, false, cond, not, ◌&&◌, T, List, [], ◌∷◌, refl, sym, ap, subst, ◌∙◌, Option, Some, None, map, length, take, drop, get_or, ◌⊎◌, inl, inr, arith}
+use Rattle.std.proofs.Common.{◌≡◌, ℕ, zero, suc, ◌<◌, ◌≤◌, Bool, true, false, cond, not, ◌&&◌, T, List, [], ◌∷◌, refl, sym, ap, subst, ◌∙◌, Option, Some, None, map, take, drop, get_or, ◌⊎◌, inl, inr, arith}
 use Rattle.std.specs.Prelude.{slice_get, option_map, unwrap_or, ◌≢◌}
 use Rattle.std.specs.List.{filter, list_all, AllPairs}
 use Rattle.std.specs.declared.cmp.Ordering.{Ordering}
@@ -16,13 +16,13 @@ use Rattle.std.proofs.lemmas.Option.{slice_get-get_or, slice_get_within}
 use Rattle.clone_values.specs.Tree.{Tree}
 use Rattle.clone_values.specs.KeyTree.{KeyTree}
 use Rattle.key_order.specs.KeyOrder.{key_cmp}
-use Rattle.key_order.proofs.Laws.{key_cmp_total, key_cmp_same}
+use Rattle.key_order.proofs.Laws.{key_cmp_total}
 use Rattle.idb_keys.specs.KeyRange.{Bound, Range, admits, meets_lower, meets_upper, includes}
 use Rattle.idb_keys.specs.declared.names.Over.{Over}
 use Rattle.idb_keys.specs.declared.names.Over.TheVariants.{Store, Index}
 use Rattle.idb_schema.specs.declared.definitions.IndexInfo.{IndexInfo}
 use Rattle.sorted_table.proofs.Laws.{is_less, first, second}
-use Rattle.index_tables.specs.Rows.{RowTree, RowSet, row_cmp, among, has_row, rows_of}
+use Rattle.index_tables.specs.Rows.{RowTree, row_cmp, among, rows_of}
 use Rattle.index_tables.specs.RecordRows.{Records, index_rows, gives_key}
 use Rattle.index_tables.proofs.Laws.{rising, has_row_among, has_index_row}
 use Rattle.indexed_records.specs.Reading.{members_in, selected}

@@ -4,7 +4,6 @@ use Rattle.clone_values.specs.View.{key_tree_of, tree_of}
 use Rattle.object_stores.specs.IsStore.{IsStoreContent}
 use Rattle.object_stores.specs.Parts.{content_in, log_in}
 use Rattle.object_stores.specs.declared.changes.Change.TheVariants as change
-use Rattle.object_stores.specs.declared.changes.Parts.{Parts}
 use Rattle.object_stores.proofs.Logged.{sound_pushed, past_pushed, fine_now}
 use Rattle.object_stores.proofs.Back.{removed_back, removed_can}
 use Rattle.object_stores.proofs.Fine.{fine_records, stored_remove}

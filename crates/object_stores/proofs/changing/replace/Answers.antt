@@ -1,9 +1,8 @@
-use Rattle.std.proofs.Common.{◌+◌, sym, ap, ◌∙◌, subst, arith}
+use Rattle.std.proofs.Common.{◌+◌, sym, ◌∙◌, subst, arith}
 use Rattle.clone_values.specs.View.{key_tree_of, tree_of}
 use Rattle.object_stores.specs.IsStore.{IsStoreContent}
 use Rattle.object_stores.specs.Parts.{content_in, log_in}
 use Rattle.object_stores.specs.declared.changes.Change.TheVariants as change
-use Rattle.object_stores.specs.declared.changes.Parts.{Parts}
 use Rattle.object_stores.proofs.Logged.{sound_pushed, past_pushed, fine_now}
 use Rattle.object_stores.proofs.Back.{replaced_back, replaced_can}
 use Rattle.object_stores.proofs.Fine.{fine_insert}

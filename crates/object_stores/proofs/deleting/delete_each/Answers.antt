@@ -1,8 +1,6 @@
-use Rattle.std.proofs.Common.{◌≡◌, ◌-◌, ◌<◌, true, false, [], length, take, drop, map, sym, ap, ◌∙◌, subst, arith}
+use Rattle.std.proofs.Common.{◌-◌, sym, ap, ◌∙◌, subst, arith}
 use Rattle.std.specs.FinMap.{entries}
-use Rattle.idb_keys.specs.KeyRange.{includes}
 use Rattle.object_stores.specs.Store.{Content}
-use Rattle.object_stores.specs.Parts.{content_in, past_in}
 use Rattle.object_stores.proofs.Deleted.{all_gone, outside_removed, last_inside, entry_there, empty_take, last_within, SameOutside}
 use Rattle.object_stores.proofs.Past.{keeps_again}
 use Rattle.object_stores.proofs.deleting.delete_each.Goals as goal

@@ -1,4 +1,4 @@
-use Rattle.std.proofs.Common.{sym, ◌∙◌}
+use Rattle.std.proofs.Common.{sym}
 use Rattle.object_stores.proofs.Off.{some_there}
 use Rattle.object_stores.proofs.putting.rows_at.Goals as goal
 

@@ -1,6 +1,4 @@
-use Rattle.std.proofs.Common.{sym, subst, arith, refl}
-use Rattle.object_stores.specs.Parts.{log_in}
-use Rattle.object_stores.specs.Undo.{HasSpare}
+use Rattle.std.proofs.Common.{arith, refl}
 use Rattle.object_stores.specs.declared.changes.Change.TheVariants as change
 use Rattle.object_stores.proofs.Off.{sound_off}
 use Rattle.object_stores.proofs.undoing.undo_cleared.Goals as goal

@@ -1,4 +1,4 @@
-use Rattle.std.proofs.Common.{sym, arith, refl, subst}
+use Rattle.std.proofs.Common.{arith, refl}
 use Rattle.object_stores.specs.declared.changes.Change.TheVariants as change
 use Rattle.object_stores.proofs.Off.{sound_off}
 use Rattle.object_stores.proofs.undoing.undo_index_dropped.Goals as goal

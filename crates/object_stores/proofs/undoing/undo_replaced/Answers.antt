@@ -1,5 +1,4 @@
 use Rattle.std.proofs.Common.{arith, refl}
-use Rattle.std.specs.FinMap.{entries}
 use Rattle.clone_values.specs.View.{key_tree_of, tree_of}
 use Rattle.object_stores.specs.declared.changes.Change.TheVariants as change
 use Rattle.object_stores.proofs.Off.{place_within, one_value, sound_off}

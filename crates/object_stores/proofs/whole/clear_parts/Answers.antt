@@ -1,8 +1,8 @@
-use Rattle.std.proofs.Common.{sym, ap, ◌∙◌, subst, arith, refl}
+use Rattle.std.proofs.Common.{sym, ap, ◌∙◌, subst, arith}
 use Rattle.std.specs.FinMap.{empty}
 use Rattle.indexed_records.specs.Contents.{Indexed, row_sets}
 use Rattle.object_stores.specs.IsStore.{IsStoreContent}
-use Rattle.object_stores.specs.Parts.{content_in, log_in, past_in}
+use Rattle.object_stores.specs.Parts.{content_in, log_in}
 use Rattle.object_stores.specs.declared.changes.Change.TheVariants as change
 use Rattle.object_stores.proofs.Logged.{sound_pushed, past_pushed, fine_now}
 use Rattle.object_stores.proofs.Fine.{fine_records, stored_empty}

@@ -1,4 +1,4 @@
-use Rattle.std.proofs.Common.{◌∙◌, sym, ap, Some}
+use Rattle.std.proofs.Common.{◌∙◌, sym}
 use Rattle.range_reads.proofs.Rising.{members_rise, first_in_range, first_outside, first_missing}
 use Rattle.range_reads.proofs.reads.first_in.Goals as goal
 

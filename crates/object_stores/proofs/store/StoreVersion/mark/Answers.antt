@@ -1,4 +1,4 @@
-use Rattle.std.proofs.Common.{◌≡◌, length, sym, ap, ◌∙◌, subst}
+use Rattle.std.proofs.Common.{length, sym, ap, ◌∙◌, subst}
 use Rattle.object_stores.specs.Store.{Kept, at_mark}
 use Rattle.object_stores.specs.IsStore.{IsStore}
 use Rattle.object_stores.proofs.Logged.{past_length}

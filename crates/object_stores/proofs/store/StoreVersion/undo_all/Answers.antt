@@ -1,4 +1,4 @@
-use Rattle.std.proofs.Common.{◌≡◌, ◌≤◌, ◌∙◌, length, sym, ap, subst, arith}
+use Rattle.std.proofs.Common.{◌∙◌, sym, ap, subst, arith}
 use Rattle.object_stores.specs.Store.{Kept, numbered}
 use Rattle.object_stores.specs.IsStore.{IsCurrent}
 use Rattle.object_stores.proofs.Marks.{current_undone, settled_undone}
