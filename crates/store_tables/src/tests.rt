@@ -41,7 +41,7 @@ fn rows_stand_in_order(rt: HostRuntime) -> Result<(), Fail> {
     let mut index: IndexTable<LeafTables> = IndexTable::new(alloc);
     let mut expected = String::new(alloc);
     for n in 0..200 {
-        add(alloc, &mut index, n * 37 % 200)?;
+        add(alloc, &mut index, n.wrapping_mul(37) % 200)?;
         write!(expected, "{n} ")?;
     }
     assert_eq!(rt; keys_listed(alloc, &index)?.as_str(), expected.as_str());
