@@ -40,7 +40,7 @@ fn rows_stand_in_order(rt: HostRuntime) -> Result<(), Fail> {
     let alloc = rt.alloc();
     let mut index: IndexTable<LeafTables> = IndexTable::new(alloc);
     let mut expected = String::new(alloc);
-    for n in 0..200 {
+    for n in 0i64..200 {
         add(alloc, &mut index, n.wrapping_mul(37) % 200)?;
         write!(expected, "{n} ")?;
     }
