@@ -344,14 +344,14 @@ fn a_switch_takes_over_or_does_not(rt: HostRuntime) -> Result<(), Fail> {
 }
 
 const SWITCHED_BACK: &str =
-    "Kept, 1: ok ok fault refused 1 restart 2: 17+6 x2, 1: ok ok fault refused 1 restart 2: 17+6 32+3 x2, 1: ok ok ok fault restart 2: 17+6 32+3 x8, 1: ok ok ok fault restart 3: 17+6 x2, 1: ok ok ok ok restart 3: 17+6 x1
-Dropped, 1: ok ok fault refused 1 restart 2: 17+6 x4, 1: ok ok ok fault restart 2: 17+6 32+3 x10, 1: ok ok ok ok restart 3: 17+6 x1
-Byte(165), 1: ok ok fault refused 1 restart 2: 17+6 x2, 1: ok ok fault refused 1 restart 2: 17+6 32+3 x2, 1: ok ok ok fault restart 2: 17+6 32+3 x8, 1: ok ok ok fault restart 3: 17+6 x2, 1: ok ok ok ok restart 3: 17+6 x1
-Byte(0), 1: ok ok fault refused 1 restart 2: 17+6 x4, 1: ok ok ok fault restart 2: 17+6 32+3 x10, 1: ok ok ok ok restart 3: 17+6 x1
+    "Kept, 1: ok ok ok fault restart 2: 17+6 32+3 x8, 1: ok ok ok fault restart 3: 17+6 x2, 1: ok ok ok ok restart 3: 17+6 x1
+Dropped, 1: ok ok ok fault restart 2: 17+6 32+3 x10, 1: ok ok ok ok restart 3: 17+6 x1
+Byte(165), 1: ok ok ok fault restart 2: 17+6 32+3 x8, 1: ok ok ok fault restart 3: 17+6 x2, 1: ok ok ok ok restart 3: 17+6 x1
+Byte(0), 1: ok ok ok fault restart 2: 17+6 32+3 x10, 1: ok ok ok ok restart 3: 17+6 x1
 ";
 
-// A batch is appended in area 1; and then the new log is made over the old open area of a lesser generation, which is cut
-// first.
+// The new log is made over the old open area of a lesser generation, which is cut first; and a batch is appended in
+// area 1.
 #[test]
 fn a_switch_goes_over_an_old_open_area(rt: HostRuntime) -> Result<(), Fail> {
     let steps = [
@@ -364,7 +364,7 @@ fn a_switch_goes_over_an_old_open_area(rt: HostRuntime) -> Result<(), Fail> {
         Step::Restart,
         Step::Load,
     ];
-    let said = stopped(rt.alloc(), &steps, Trouble::Stop, (23, 37))?;
+    let said = stopped(rt.alloc(), &steps, Trouble::Stop, (27, 37))?;
     assert_eq!(rt; said.as_str(), SWITCHED_BACK);
     Ok(())
 }
@@ -388,31 +388,6 @@ fn a_load_follows_a_fault(rt: HostRuntime) -> Result<(), Fail> {
     ];
     let said = stopped(rt.alloc(), &steps, Trouble::Fail, (17, 24))?;
     assert_eq!(rt; said.as_str(), LOADED_AFTER_A_FAULT);
-    Ok(())
-}
-
-const APPENDED_AFTER_A_FAULT: &str =
-    "Kept, 1: ok fault refused 1 1: 17+3 ok 17+3 29+6 x2, 1: ok fault refused 1 1: 17+3 29+6 ok 17+3 29+6 44+6 x2
-Dropped, 1: ok fault refused 1 1: 17+3 ok 17+3 29+6 x2, 1: ok fault refused 1 1: 17+3 29+6 ok 17+3 29+6 44+6 x2
-Byte(165), 1: ok fault refused 1 1: 17+3 ok 17+3 29+6 x2, 1: ok fault refused 1 1: 17+3 29+6 ok 17+3 29+6 44+6 x2
-Byte(0), 1: ok fault refused 1 1: 17+3 ok 17+3 29+6 x2, 1: ok fault refused 1 1: 17+3 29+6 ok 17+3 29+6 44+6 x2
-";
-
-// The batch of an append that failed is there where its gate was written; and the log that is loaded goes on.
-#[test]
-fn a_load_follows_an_append_that_failed(rt: HostRuntime) -> Result<(), Fail> {
-    let steps = [
-        Step::Load,
-        Step::Append(ONE),
-        Step::Append(TWO),
-        Step::Append(&[]),
-        Step::Close,
-        Step::Load,
-        Step::Append(TWO),
-        Step::Batches,
-    ];
-    let said = stopped(rt.alloc(), &steps, Trouble::Fail, (15, 18))?;
-    assert_eq!(rt; said.as_str(), APPENDED_AFTER_A_FAULT);
     Ok(())
 }
 
