@@ -2,11 +2,13 @@
 ghost use Rattle.std.specs.Prelude.{◌≡◌, ◌+◌, ◌-◌, ◌*◌, ◌^◌, ◌≤◌, length, take, drop, slice_get, option_map, not, IfOk, IsOk, OnOk};
 ghost use Rattle.std.specs.List.{AllPass, position};
 ghost use Rattle.index_tables.specs.Rows.{no_rows, rows_of, count_of, has_row, with_rows, without_rows, has_key, first_row, row_meets};
-ghost use Rattle.index_tables.specs.View.{row_of, row_seen, bound_seen};
+ghost use Rattle.index_tables.specs.View.{row_of, row_seen, rows_in, bound_seen};
 
 use crate::changing::{add_all, copy_all, remove_all, replace_all};
 use crate::rows::{Row, Rows};
-use crate::searching::{count_in, find_first, first_from, first_key_had, has_row, row_at};
+use crate::searching::{
+    count_in, find_first, first_from, first_key_had, has_row, in_order, row_at,
+};
 use crate::tables::Tables;
 use clone_values::{Key, Keys};
 use idb_base::NoMemory;
@@ -56,6 +58,13 @@ impl<T: Tables> IndexTable<T> {
         ensures { option_map row_seen result ≡ slice_get (rows_of self.now.rows) place }
     {
         row_at(&self.table, place)
+    }
+
+    /// The table of the rows, for those who walk over it.
+    pub fn table(&self) -> &T::Rows
+        ensures { rows_in (T.Rows.entries result.now) ≡ rows_of self.now.rows }
+    {
+        in_order(&self.table)
     }
 
     /// Whether this row is there. It takes no memory.

@@ -4,7 +4,7 @@ ghost use Rattle.std.specs.List.{position};
 ghost use Rattle.clone_values.specs.View.{key_tree_of};
 ghost use Rattle.idb_keys.specs.KeyRange.{bound_at};
 ghost use Rattle.index_tables.specs.Rows.{rows_of, count_of, row_meets, has_row, has_key};
-ghost use Rattle.index_tables.specs.View.{row_of, row_seen, row_set, bound_seen};
+ghost use Rattle.index_tables.specs.View.{row_of, row_seen, row_set, rows_in, bound_seen};
 ghost use Rattle.index_tables.specs.Halves.{IsSplitAt, IsSplitBetween};
 
 use crate::rows::Row;
@@ -21,6 +21,13 @@ pub(crate) fn count_in<R: OrderedTable<Row, ()>>(table: &R) -> usize
     ensures listed { result ≡ length (rows_of (row_set (R.entries table.now))) }
 {
     table.len()
+}
+
+/// The table itself: its entries are the rows in their order.
+pub(crate) fn in_order<R: OrderedTable<Row, ()>>(table: &R) -> &R
+    ensures { rows_in (R.entries result.now) ≡ rows_of (row_set (R.entries table.now)) }
+{
+    table
 }
 
 /// The row at this place, counted from 0; `None` past the end.

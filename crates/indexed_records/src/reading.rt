@@ -11,7 +11,7 @@ ghost use Rattle.indexed_records.specs.Contents.{IsRecordAt, IsGapOf};
 ghost use Rattle.indexed_records.specs.Ends.{IsFirstFrom};
 ghost use Rattle.indexed_records.specs.Reading.{keys_seen, value_seen};
 ghost use Rattle.indexed_records.specs.Shown.{shown_by};
-ghost use Rattle.indexed_records.specs.View.{record_seen, records_of};
+ghost use Rattle.indexed_records.specs.View.{record_seen, records_of, own_rows};
 
 use clone_values::{Key, Value};
 use idb_keys::Over;
@@ -54,6 +54,13 @@ fn records_shown<R: OrderedTable<Key, Value>>(records: &R) -> usize
     ensures { result ≡ length (shown_by (records_of (R.entries records.now)) [] Store) }
 {
     records.len()
+}
+
+/// The table of records itself: its entries are what the store shows, in order.
+pub(crate) fn records_in_order<R: OrderedTable<Key, Value>>(records: &R) -> &R
+    ensures { own_rows (R.entries result.now) ≡ shown_by (records_of (R.entries records.now)) [] Store }
+{
+    records
 }
 
 /// The value of the record of this key.

@@ -1,20 +1,21 @@
 // Records and the tables of their rows.
-ghost use Rattle.std.specs.Prelude.{◌≡◌, ◌≤◌, not, [], length, take, drop, slice_get, option_map, IfOk, IfErr};
+ghost use Rattle.std.specs.Prelude.{◌≡◌, ◌≤◌, not, [], length, take, drop, slice_get, option_map, IfOk, IfErr, IfSome, IfNone};
 ghost use Rattle.std.specs.FinMap as finite;
 ghost use Rattle.clone_values.specs.Tree.{Tree};
 ghost use Rattle.clone_values.specs.View.{key_tree_of};
-ghost use Rattle.index_tables.specs.View.{bound_seen};
+ghost use Rattle.idb_keys.specs.declared.names.Over.TheVariants.{Store, Index};
+ghost use Rattle.index_tables.specs.View.{rows_in, bound_seen};
 ghost use Rattle.indexed_records.specs.Contents.{IsRecordAt, IsGapOf};
 ghost use Rattle.indexed_records.specs.Ends.{IsFirstFrom};
 ghost use Rattle.indexed_records.specs.Reading.{members_in, keys_seen, value_seen};
-ghost use Rattle.indexed_records.specs.View.{record_seen};
+ghost use Rattle.indexed_records.specs.View.{record_seen, own_rows};
 
 mod indexing;
 mod writing;
 
 use crate::reading::{
-    count_records, first_record, first_row, record_in, record_nth, shown_at, shown_count,
-    value_found,
+    count_records, first_record, first_row, record_in, record_nth, records_in_order, shown_at,
+    shown_count, table_at, value_found,
 };
 use clone_values::{Key, Value};
 use idb_keys::Over;
@@ -108,6 +109,26 @@ impl<T: Tables> IndexedRecords<T> {
             ≡ slice_get (members_in self.now.info.indexes self.now.records over) place }
     {
         shown_at(&self.records, &self.tables, over, place)
+    }
+
+    /// The table of the records, for those who walk over it.
+    pub fn record_table(&self) -> &T::Records
+        ensures { own_rows (T.Records.entries result.now)
+            ≡ members_in self.now.info.indexes self.now.records Store }
+    {
+        records_in_order(&self.records)
+    }
+
+    /// The table of the rows of the index at this place; `None` where there is none, and then the index shows no rows.
+    pub fn row_table(&self, place: usize) -> Option<&T::Rows>
+        ensures rows { IfSome result (λ table. rows_in (T.Rows.entries table.now)
+            ≡ members_in self.now.info.indexes self.now.records (Index place)) }
+        ensures none { IfNone result (members_in self.now.info.indexes self.now.records (Index place) ≡ []) }
+    {
+        match table_at(&self.tables, place) {
+            Some(table) => Some(table.table()),
+            None => None,
+        }
     }
 
     /// The place of the record of this key, or the place where it would stand, found by halving. It takes no memory.

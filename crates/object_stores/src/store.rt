@@ -1,14 +1,15 @@
 // Object stores.
-ghost use Rattle.std.specs.Prelude.{◌≡◌, ℕ, ◌<◌, ◌≤◌, true, [], None, length, take, slice_get, option_map, IfOk, IfErr, IsErrOf, OnOk, OnErr};
+ghost use Rattle.std.specs.Prelude.{◌≡◌, ℕ, ◌<◌, ◌≤◌, true, [], None, length, take, slice_get, option_map, IfOk, IfErr, IfSome, IfNone, IsErrOf, OnOk, OnErr};
 ghost use Rattle.std.specs.FinMap as finite;
 ghost use Rattle.clone_values.specs.View.{key_tree_of, tree_of};
-ghost use Rattle.idb_keys.specs.declared.names.Over.TheVariants.{Store};
+ghost use Rattle.idb_keys.specs.declared.names.Over.TheVariants.{Store, Index};
 ghost use Rattle.idb_schema.specs.Definitions.{IsStoreInfo, IsIndexInfo, index_named};
 ghost use Rattle.key_generators.specs.Generators.{IsGenerator};
 ghost use Rattle.index_tables.specs.Unique.{broken_key};
 ghost use Rattle.indexed_records.specs.Causes.{IsCause};
 ghost use Rattle.indexed_records.specs.Reading.{selected, limited, primary_keys, values_in, first_primary, first_value, keys_seen, value_seen};
-ghost use Rattle.indexed_records.specs.View.{record_seen};
+ghost use Rattle.index_tables.specs.View.{rows_in};
+ghost use Rattle.indexed_records.specs.View.{record_seen, own_rows};
 ghost use Rattle.object_stores.specs.Changed.{without_range, cleared, with_current, store_with_index, store_without_index};
 ghost use Rattle.object_stores.specs.IsStore.{IsStore, IsCurrent};
 ghost use Rattle.object_stores.specs.Showing.{shown_in, chosen_in};
@@ -136,6 +137,23 @@ impl<T: Tables> StoreVersion<T> {
         ensures { option_map keys_seen result ≡ slice_get (shown_in self.now.store over) place }
     {
         self.parts.contents.row(over, place)
+    }
+
+    /// The table of the records, for a cursor over them.
+    pub fn record_table(&self) -> &T::Records
+        ensures { own_rows (T.Records.entries result.now) ≡ shown_in self.now.store Store }
+    {
+        self.parts.contents.record_table()
+    }
+
+    /// The table of the rows of the index at this place, for a cursor over them; `None` where there is none, and then the index
+    /// shows no rows.
+    pub fn row_table(&self, place: usize) -> Option<&T::Rows>
+        ensures rows { IfSome result (λ table. rows_in (T.Rows.entries table.now)
+            ≡ shown_in self.now.store (Index place)) }
+        ensures none { IfNone result (shown_in self.now.store (Index place) ≡ []) }
+    {
+        self.parts.contents.row_table(place)
     }
 
     /// The value of the first record in the range ("get").
