@@ -1,0 +1,4 @@
+pub mod Named
+pub mod Stores
+pub mod Items
+pub mod Views

@@ -1,0 +1,4 @@
+pub mod ChangedAt
+pub mod ScopeLemmas
+pub mod ChangeLemmas
+pub mod Laws
