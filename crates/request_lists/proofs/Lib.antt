@@ -1,0 +1,6 @@
+mod Becoming
+mod Clones
+pub mod Laws
+mod Named
+mod Numbered
+mod Taken

@@ -1,0 +1,108 @@
+// The calls of an upgrade: the schema changes at once, and an entry is added at the end of the list.
+ghost use Rattle.std.specs.Prelude.{◌≡◌, None, OnOk, OnErr, IfOk, IfErr};
+ghost use Rattle.request_lists.specs.Refusals.{is_store_gone, refusal_of_change};
+ghost use Rattle.request_lists.specs.Placing.{after_schema_call, IsRefusal, Becomes};
+
+use crate::entries::ListEntry;
+use crate::front::TxFront;
+use crate::lookups::is_store_deleted;
+use crate::refusing::Refusal;
+use idb_base::NoMemory;
+use idb_keys::ErrorName;
+use idb_schema::{Schema, SchemaCall};
+use std::alloc::Global;
+use version_upgrade::{apply_schema, check_schema};
+
+impl<H: Drop> TxFront<H> {
+    /// `createObjectStore`, `deleteObjectStore`, `createIndex` and `deleteIndex`. The schema is changed at once, the stores when the
+    /// entry is run; it has no number and no event.
+    pub fn schema(&mut self, call: SchemaCall) -> Result<(), Refusal>
+        ensures taken { OnOk result (refusal_of_change call self.old ≡ None) }
+        ensures changed { OnOk result (self.new ≡ after_schema_call call self.old) }
+        ensures refused { IfErr result (λ r. IsRefusal r (refusal_of_change call self.old)) }
+        ensures unchanged { OnErr result (self.new ≡ self.old) }
+        ensures becomes { Becomes self.old self.new }
+    {
+        if let Some(name) = self.refusal_of_change(&call) {
+            return Err(Refusal::Name(name));
+        }
+        let copy = copied(self.alloc, &call)?;
+        if self.waiting.reserve(1).is_err() {
+            return Err(Refusal::NoMemory);
+        }
+        apply_schema(self.alloc, &mut self.schema, copy)?;
+        self.waiting.push_back_reserved(ListEntry::Change { call });
+        Ok(())
+    }
+
+    /// The first cause for which the front refuses the call.
+    fn refusal_of_change(&self, call: &SchemaCall) -> Option<ErrorName>
+        ensures { result ≡ refusal_of_change call.now self.now }
+    {
+        if !self.is_upgrade() {
+            return Some(ErrorName::InvalidStateError);
+        }
+        if is_store_gone(&self.schema, call) {
+            return Some(ErrorName::InvalidStateError);
+        }
+        if !self.is_active() {
+            return Some(ErrorName::TransactionInactiveError);
+        }
+        match check_schema(&self.schema, call) {
+            Ok(()) => None,
+            Err(name) => Some(name),
+        }
+    }
+}
+
+/// Whether the store whose indexes the call changes is deleted.
+fn is_store_gone(schema: &Schema, call: &SchemaCall) -> bool
+    ensures { result ≡ is_store_gone schema.now call.now }
+{
+    match call {
+        SchemaCall::CreateStore { .. } => false,
+        SchemaCall::DropStore { .. } => false,
+        SchemaCall::CreateIndex { store, .. } => is_store_deleted(schema, *store),
+        SchemaCall::DropIndex { store, .. } => is_store_deleted(schema, *store),
+    }
+}
+
+/// An equal call.
+fn copied(alloc: Global, call: &SchemaCall) -> Result<SchemaCall, NoMemory>
+    ensures { IfOk result (λ r. r ≡ call.now) }
+{
+    match call {
+        SchemaCall::CreateStore { name, path, auto } => {
+            let name = name.copy(alloc)?;
+            let path = match path {
+                Some(path) => Some(path.copy(alloc)?),
+                None => None,
+            };
+            Ok(SchemaCall::CreateStore {
+                name,
+                path,
+                auto: *auto,
+            })
+        }
+        SchemaCall::DropStore { name } => Ok(SchemaCall::DropStore {
+            name: name.copy(alloc)?,
+        }),
+        SchemaCall::CreateIndex {
+            store,
+            name,
+            path,
+            unique,
+            multi,
+        } => Ok(SchemaCall::CreateIndex {
+            store: *store,
+            name: name.copy(alloc)?,
+            path: path.copy(alloc)?,
+            unique: *unique,
+            multi: *multi,
+        }),
+        SchemaCall::DropIndex { store, name } => Ok(SchemaCall::DropIndex {
+            store: *store,
+            name: name.copy(alloc)?,
+        }),
+    }
+}
