@@ -1,0 +1,9 @@
+pub mod Firsts
+pub mod Counts
+pub mod BoxLemmas
+pub mod Paying
+pub mod Lists
+pub mod Fronts
+pub mod FaultLemmas
+pub mod TableLemmas
+pub mod Laws

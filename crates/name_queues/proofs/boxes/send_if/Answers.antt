@@ -1,0 +1,10 @@
+use Rattle.std.proofs.Common.{◌≡◌, ◌∙◌, ℕ, suc, ◌<◌, ◌≤◌, ◌+◌, length, get_or, map, take, drop, slice_get, position, Option, Some, None, Bool, true, false, List, [], ◌∷◌, ◌++◌, ap, sym, refl, subst, add-one, arith}
+use Rattle.name_queues.specs.Room.{Box, is_box, with_event, with_more, with_mail_changed, with_mail_of, room_of, mails_of, HasOwedRoom, HasEventRoom, put_events, put_event}
+use Rattle.name_queues.specs.Mails.{conn_of, taken_mail, lost_change, lost_changes, with_taken, events_of, taken_of}
+use Rattle.name_queues.proofs.Firsts.{IsPlace, IsNowhere, place_of, place_in, nowhere, nowhere_in}
+use Rattle.std.specs.Option.{option_to_list}
+use Rattle.name_queues.proofs.BoxLemmas.{room_for_rest}
+use Rattle.name_queues.proofs.boxes.send_if.Goals as goal
+
+pub send-requires : goal.send-requires
+send-requires c = (room_for_rest c.in-Some.event [] c.args.boxes.now.items (subst (λ o. HasEventRoom (option_to_list o) c.args.boxes.now.items) c.in-Some.is c.requires)).0

@@ -1,0 +1,6 @@
+pub mod Ids
+pub mod Traffic
+pub mod Names
+pub mod Moves
+pub mod Mails
+pub mod Room
