@@ -1,0 +1,10 @@
+use Rattle.std.proofs.Common.{◌≡◌, drop, []}
+use Rattle.serde_json.specs.View.{items_view}
+use Rattle.script_exprs.specs.Forms.{named_behind}
+use Rattle.script_exprs.specs.Documents.{datas_of}
+use Rattle.script_exprs.proofs.forms.named_behind.Given as goal
+
+abbrev pub invariant-loop-entry : goal.invariant-loop-entry
+invariant-loop-entry l =
+    named_behind l.of_array (l.names, datas_of l.parts.items) (items_view (drop l.entry-index l.entry-items))
+    ≡ named_behind l.of_array ([], datas_of l.fn.before.items) (items_view l.entry-items)

@@ -1,0 +1,4 @@
+pub mod Expression
+pub mod Forms
+pub mod Documents
+pub mod Expressions
