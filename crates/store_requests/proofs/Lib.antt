@@ -1,0 +1,5 @@
+pub mod AnswerLemmas
+pub mod RemovalLemmas
+pub mod StoringLemmas
+pub mod Chains
+pub mod RunChains
