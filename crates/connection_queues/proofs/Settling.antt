@@ -7,7 +7,7 @@ use Rattle.idb_keys.specs.declared.names.ErrorName.TheVariants as error
 use Rattle.name_queues.specs.Ids.{by_id_order}
 use Rattle.name_queues.specs.declared.events.ClientEvent.TheVariants as event
 use Rattle.name_queues.specs.Names.{version_of, is_unheard, has_conns}
-use Rattle.name_queues.specs.Moves.{Moved, next_front, new_conn, wanted, turned, where_idle, by_front, at_stage, ready_where_closed, begun, blocked, opened_or_told, all_told, made_ready}
+use Rattle.name_queues.specs.Moves.{Moved, next_front, new_conn, asked_version, turned, where_idle, by_front, at_stage, ready_where_closed, begun, blocked, opened_or_told, all_told, made_ready}
 use Rattle.connection_queues.specs.Runs.{QueueStep, settled, settled_by, settled_name, after_step, run_of}
 use Rattle.connection_queues.specs.Machine.{QueueState}
 use Rattle.name_queues.specs.declared.ids.ConnId.{ConnId}
@@ -51,7 +51,7 @@ opened_cases n who rest old new f t = elim (ltb new old) as (λ b. suc (weight (
 ]
 
 begun_cases : (n : Named) (who : ConnId) (rest : List Ask) (old : ℕ) (want : Wants) → suc (weight_at stage.Fresh rest) ≤ weight n → suc (weight_at stage.Told n.traffic.queue) ≤ weight n → suc (weight (begun n who rest old want).named) ≤ weight n
-begun_cases n who rest old (wants.Open version) f t = opened_cases n who rest old (wanted old version) f t
+begun_cases n who rest old (wants.Open version) f t = opened_cases n who rest old (asked_version old version) f t
 begun_cases n who rest old wants.Delete f t = elim (eqb old 0) as (λ b. suc (weight (cond b (record { named = next_front n rest n.traffic.conns; sent = event.Success who 0 ∷ [] }) (all_told n old None)).named) ≤ weight n) [ true ↦ f | false ↦ t ]
 
 blocked_less : (n : Named) (who : ConnId) (old : ℕ) (want : Wants) (conns : List (ConnId × Conn)) → suc (weight_at stage.Waits n.traffic.queue) ≤ weight n → suc (weight (blocked n who old want conns).named) ≤ weight n

@@ -1,6 +1,6 @@
 -- Runs of calls, with the queues moved after each as far as they can.
 --     QueueStep             a call with its arguments
---     made                  what the call makes of the state
+--     state_by              what the call makes of the state
 --     settled, settled_name one name, its queue moved as far as it can
 --     settled_all           each name so, in the order of the bytes of the names
 --     after_step            the state after a call, and with the queues moved
@@ -28,16 +28,16 @@ pub data QueueStep : Type 0 where
   Faults : QueueStep
 
 -- what the call makes of the state
-abbrev pub made : QueueState → QueueStep → QueueState
-made s (Asks who name want) = after_ask s who name want
-made s (Takes client) = taken s client
-made s (Handles client) = handled s client
-made s (Closes who) = closed s who
-made s (BeginsTx who) = tx_begun s who
-made s (EndsTx who) = tx_done s who
-made s (EndsUpgrade name kept) = upgrade_done s name kept
-made s (EndsDeletion name kept) = delete_done s name kept
-made s Faults = faulted_state s
+abbrev pub state_by : QueueState → QueueStep → QueueState
+state_by s (Asks who name want) = after_ask s who name want
+state_by s (Takes client) = taken s client
+state_by s (Handles client) = handled s client
+state_by s (Closes who) = closed s who
+state_by s (BeginsTx who) = tx_begun s who
+state_by s (EndsTx who) = tx_done s who
+state_by s (EndsUpgrade name kept) = upgrade_done s name kept
+state_by s (EndsDeletion name kept) = delete_done s name kept
+state_by s Faults = faulted_state s
 
 abbrev pub then_moved : List ClientEvent → Moved → Moved
 then_moved sent m = record { named = m.named; sent = sent ++ m.sent }
@@ -64,7 +64,7 @@ settled_all s = record s {
 
 -- the state after a call, with the queues moved
 abbrev pub after_step : QueueState → QueueStep → QueueState
-after_step s step = settled_all (made s step)
+after_step s step = settled_all (state_by s step)
 
 -- the state after these calls
 abbrev pub run_of : QueueState → List QueueStep → QueueState

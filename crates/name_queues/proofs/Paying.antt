@@ -8,7 +8,7 @@ use Rattle.idb_schema.specs.Schemas.{SchemaData}
 use Rattle.idb_keys.specs.declared.names.ErrorName.TheVariants as error
 use Rattle.name_queues.specs.Ids.{by_id_order}
 use Rattle.name_queues.specs.Names.{kept_conn, version_of, conn_at, is_unheard, with_conns, with_conn, with_conn_where}
-use Rattle.name_queues.specs.Moves.{Moved, wanted, new_conn, tells, told_conns, all_told, opened_or_told, begun, blocked, made_ready, ready_conns, ready_event, ready_where_closed, at_stage, by_front, where_idle, turned, left_conn, is_over, told_closed, closing, closed_where, closed_conn, tx_ended_where, tx_ended, one_less as one_tx_less, failed_conn, open_failed, is_conn_open, upgrade_kept, upgrade_over, upgrade_ended_of, upgrade_ended, deletion_ended_of, deletion_ended, faulted_name, faulted_conns, faulted_closes, answers_unknown, unmoved, turned_name, or_unmoved}
+use Rattle.name_queues.specs.Moves.{Moved, asked_version, new_conn, tells, told_conns, all_told, opened_or_told, begun, blocked, made_ready, ready_conns, ready_event, ready_where_closed, at_stage, by_front, where_idle, turned, left_conn, is_over, told_closed, closing, closed_where, closed_conn, tx_ended_where, tx_ended, one_less as one_tx_less, failed_conn, open_failed, is_conn_open, upgrade_kept, upgrade_over, upgrade_ended_of, upgrade_ended, deletion_ended_of, deletion_ended, faulted_name, faulted_conns, faulted_closes, answers_unknown, unmoved, turned_name, or_unmoved}
 use Rattle.name_queues.specs.Mails.{conn_of}
 use Rattle.name_queues.specs.Room.{one_for, counted, conn_room, conns_owed, queue_owed, running_owed, owed}
 use Rattle.name_queues.specs.declared.ids.ConnId.{ConnId}
@@ -110,7 +110,7 @@ opened_paid c n who rest old new f h =
     ]
 
 begun_paid : (c : ℕ) (n : Named) (who : ConnId) (rest : List Ask) (old : ℕ) (want : Wants) → FrontOwes c n who rest → queue_owed c stage.Fresh n.traffic.queue ≤ queue_owed c n.stage n.traffic.queue → PaysFor c n (begun n who rest old want)
-begun_paid c n who rest old (wants.Open version) f h = opened_paid c n who rest old (wanted old version) f h
+begun_paid c n who rest old (wants.Open version) f h = opened_paid c n who rest old (asked_version old version) f h
 begun_paid c n who rest old wants.Delete f h = elim (eqb old 0) as (λ b. PaysFor c n (cond b (record { named = record n { stage = stage.Fresh; traffic = record { queue = rest; conns = n.traffic.conns } }; sent = event.Success who 0 ∷ [] }) (all_told n old None))) [
   | true ↦ omega (arith, one_times c who 4, f)
   | false ↦ told_paid c n old None h

@@ -1,7 +1,7 @@
 -- How the queue of a name moves, and what ends a request or a connection (Indexed Database API 3.0, "open a database
 -- connection", "delete a database", "upgrade a database" and "close a database connection").
 --     Moved                 the name after a change, and the events that are sent, in order
---     wanted, new_version   the version that an open asks for; the version that connections are told of, none for a deletion
+--     asked_version, new_version   the version that an open asks for; the version that connections are told of, none for a deletion
 --     tells, told_conns     the versionchange events, and the connections that have got one
 --     turned                one move of the queue; none where it rests
 --     turned_name, turn_by  the name after one move, or as it was; what that did, or what the queue waits for
@@ -40,13 +40,13 @@ pub record Moved : Type 0 where
 
 -- ---- the request at the front
 -- the version that an open asks for: without one the current, or 1 for a new database
-abbrev pub wanted : ℕ → Option ℕ → ℕ
-wanted old (Some version) = version
-wanted old None = if old == 0 then 1 else old
+abbrev pub asked_version : ℕ → Option ℕ → ℕ
+asked_version old (Some version) = version
+asked_version old None = if old == 0 then 1 else old
 
 -- the version that connections are told of
 abbrev pub new_version : ℕ → Wants → Option ℕ
-new_version old (wants.Open version) = Some (wanted old version)
+new_version old (wants.Open version) = Some (asked_version old version)
 new_version old wants.Delete = None
 
 -- the next request is at the front, and nothing was done for it
@@ -86,7 +86,7 @@ opened_or_told n who rest old new =
 
 -- nothing was done for the request
 abbrev pub begun : Named → ConnId → List Ask → ℕ → Wants → Moved
-begun n who rest old (wants.Open version) = opened_or_told n who rest old (wanted old version)
+begun n who rest old (wants.Open version) = opened_or_told n who rest old (asked_version old version)
 begun n who rest old wants.Delete =
     if old == 0 then record { named = next_front n rest n.traffic.conns; sent = event.Success who 0 ∷ [] }
     else all_told n old None
@@ -105,7 +105,7 @@ ready_conns n who (wants.Open version) = put by_id_order who new_conn n.traffic.
 ready_conns n who wants.Delete = n.traffic.conns
 
 abbrev pub ready_event : ConnId → ℕ → Wants → ClientEvent
-ready_event who old (wants.Open version) = event.Upgrade who old (wanted old version)
+ready_event who old (wants.Open version) = event.Upgrade who old (asked_version old version)
 ready_event who old wants.Delete = event.DeleteReady who old
 
 abbrev pub made_ready : Named → Ask → List Ask → ℕ → Moved

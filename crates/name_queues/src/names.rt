@@ -4,7 +4,7 @@ ghost use Rattle.std.specs.Option.{option_to_list};
 ghost use Rattle.idb_schema.specs.Schemas.{SchemaData, new_schema};
 ghost use Rattle.name_queues.specs.Traffic.{TrafficData};
 ghost use Rattle.name_queues.specs.Names.{name_of, version_of, is_name, conn_at, holds, is_upgraded_for, has_place, with_conn, asked_by, queued, blank_name, noted_change, one_tx_more, schema_of_name};
-ghost use Rattle.name_queues.specs.Moves.{Moved, is_over, left_conn, closed_conn, tx_ended, upgrade_ended, deletion_ended, wanted, open_failed, told_closed};
+ghost use Rattle.name_queues.specs.Moves.{Moved, is_over, left_conn, closed_conn, tx_ended, upgrade_ended, deletion_ended, asked_version, open_failed, told_closed};
 
 use crate::asks::{Ask, Stage, Wants};
 use crate::connections::{Change, Conn};
@@ -59,8 +59,8 @@ fn schema_version(database: &Option<Schema>) -> u64
 }
 
 /// The version that an open asks for.
-pub fn wanted(old: u64, version: Option<u64>) -> u64
-    ensures { result ≡ wanted old version }
+pub fn asked_version(old: u64, version: Option<u64>) -> u64
+    ensures { result ≡ asked_version old version }
 {
     match version {
         Some(version) => version,

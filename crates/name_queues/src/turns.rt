@@ -11,7 +11,7 @@ use crate::boxes::{Inbox, send};
 use crate::connections::Conn;
 use crate::events::ClientEvent;
 use crate::ids::ConnId;
-use crate::names::{Named, wanted};
+use crate::names::{Named, asked_version};
 use crate::traffic::Traffic;
 use idb_keys::ErrorName;
 
@@ -32,7 +32,7 @@ fn new_version(old: u64, wants: Wants) -> Option<u64>
     ensures { result ≡ new_version old wants }
 {
     match wants {
-        Wants::Open { version } => Some(wanted(old, version)),
+        Wants::Open { version } => Some(asked_version(old, version)),
         Wants::Delete => None,
     }
 }
@@ -145,7 +145,13 @@ fn begin(n: &mut Named, boxes: &mut Vec<Inbox>, ask: Ask, old: u64)
         ≡ put_events (begun n.old ask.who (drop 1 n.old.traffic.queue) old ask.wants).sent boxes.old.items }
 {
     match ask.wants {
-        Wants::Open { version } => open_or_tell(n, boxes, ask.who, old, wanted(old, version)),
+        Wants::Open { version } => open_or_tell(
+            n,
+            boxes,
+            ask.who,
+            old,
+            asked_version(old, version),
+        ),
         Wants::Delete => {
             if old == 0 {
                 answer(n);
@@ -197,7 +203,7 @@ fn make_ready(n: &mut Named, boxes: &mut Vec<Inbox>, ask: Ask, old: u64)
     match ask.wants {
         Wants::Open { version } => {
             n.traffic.open(ask.who, Conn::new());
-            let new = wanted(old, version);
+            let new = asked_version(old, version);
             send(
                 boxes,
                 ClientEvent::Upgrade {

@@ -26,6 +26,7 @@ pub record Front (D : Type 0) : Type 0 where
   pub waiting : List (ListEntry D)
   pub next : ℕ
 
+-- a front that is active, with nothing placed in it
 abbrev pub new_front : {D : Type 0} → Mode → SchemaData → List (List ℕ) → Front D
 new_front mode schema scope = record { mode = mode; scope = scope; phase = phase.Active; schema = schema; cursors = []; waiting = []; next = 1 }
 

@@ -1,6 +1,6 @@
 -- What a store or its index shows to a cursor.
 --     member_value          the value of the record to which a member leads
---     with_value            a member and that value
+--     valued            a member and that value
 --     member_taken          the member that a turn and so many more take, with its value
 use Rattle.std.specs.Prelude.{ℕ, Option, slice_get, option_map}
 use Rattle.std.specs.Option.{option_and_then}
@@ -16,9 +16,9 @@ use Rattle.object_stores.specs.Showing.{shown_in}
 abbrev pub member_value : Store → RowTree → Option Tree
 member_value store member = get store.records member.1
 
-abbrev pub with_value : Store → RowTree → Option (RowTree × Tree)
-with_value store member = option_map (λ value. (member, value)) (member_value store member)
+abbrev pub valued : Store → RowTree → Option (RowTree × Tree)
+valued store member = option_map (λ value. (member, value)) (member_value store member)
 
 -- none where a turn finds nothing
 abbrev pub member_taken : Store → Over → TurnData → ℕ → Option (RowTree × Tree)
-member_taken store over turn more = option_and_then (with_value store) (option_and_then (slice_get (shown_in store over)) (iterated (shown_in store over) turn more))
+member_taken store over turn more = option_and_then (valued store) (option_and_then (slice_get (shown_in store over)) (iterated (shown_in store over) turn more))

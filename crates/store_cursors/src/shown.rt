@@ -7,7 +7,7 @@ ghost use Rattle.idb_cursors.specs.Cursors.{turn_of, iterated, cursor_after};
 ghost use Rattle.idb_cursors.specs.View.{key_shown};
 ghost use Rattle.object_stores.specs.Showing.{shown_in};
 ghost use Rattle.object_stores.specs.Store.{Store};
-ghost use Rattle.store_cursors.specs.Members.{member_value, with_value, member_taken};
+ghost use Rattle.store_cursors.specs.Members.{member_value, valued, member_taken};
 ghost use Rattle.store_cursors.specs.View.{member_seen};
 
 use clone_values::{Key, Value};
@@ -42,7 +42,8 @@ pub fn take_turn<'a, T: Tables>(
     ensures member { IfOk result (λ member. option_map member_seen member
         ≡ member_taken store.now.store over
         (turn_of cursor.old (key_shown key.entry) (key_shown primary.entry)) (count - 1)) }
-    ensures moved { IfOk result (λ member. cursor.new ≡ cursor_after (shown_in store.now.store over) cursor.old
+    ensures moved { IfOk result (λ member. cursor.new
+        ≡ cursor_after (shown_in store.now.store over) cursor.old
         (iterated (shown_in store.now.store over)
         (turn_of cursor.old (key_shown key.entry) (key_shown primary.entry)) (count - 1))) }
     ensures unchanged { OnErr result (cursor.new ≡ cursor.old) }
@@ -93,7 +94,7 @@ fn member_at<'a, T: Tables>(
     over: Over,
     place: usize,
 ) -> Option<Member<'a>>
-    ensures { option_map member_seen result ≡ option_and_then (with_value store.now.store)
+    ensures { option_map member_seen result ≡ option_and_then (valued store.now.store)
         (slice_get (shown_in store.now.store over) place) }
 {
     let (key, primary) = store.row(over, place)?;

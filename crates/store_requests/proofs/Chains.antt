@@ -12,7 +12,7 @@ use Rattle.item_changes.specs.Scopes.{Access, Writes, Whole, allows, AllWithin}
 use Rattle.item_changes.proofs.Laws.{names_total, one_name, same_name, changed_here, changed_twice}
 use Rattle.store_requests.specs.Runs.{Ran}
 use Rattle.store_requests.specs.declared.changes.StoreNames.{StoreNames}
-use Rattle.store_requests.specs.Leaving.{with_store, Leaves}
+use Rattle.store_requests.specs.Leaving.{with_named_store, Leaves}
 
 -- the change is one of this store, finds what it needs, and makes the other of it
 pub record LeadsTo (named : StoreNames) (delta : DeltaTree) (x y : Store) : Type 0 where
@@ -34,10 +34,10 @@ chain_both named x y z (d ∷ ds) es p q = (p.0, p.1, chain_both named p.0 y z d
 -- ---- in a database
 module _ (d : Database) (name : Name) where
   stood : (x y : Store) (test : Option Store → Bool) (change : Option Store → Option Store) → finite.get d.stores name ≡ Some x → change (Some x) ≡ Some y
-      → made (OnStore name test change) (Some d) ≡ Some (with_store d name y)
+      → made (OnStore name test change) (Some d) ≡ Some (with_named_store d name y)
   stood x y test change there makes = ap (λ o. Some (record d { stores = stood_at d.stores name o })) (ap change there ∙ makes)
 
-  over_again : (x y : Store) → with_store (with_store d name x) name y ≡ with_store d name y
+  over_again : (x y : Store) → with_named_store (with_named_store d name x) name y ≡ with_named_store d name y
   over_again x y = ap (λ stores. record d { stores = stores }) (changed_twice names_total one_name d.stores name (λ o. Some x) (λ o. Some y))
 
   put_there : (x : Store) → finite.get (finite.insert d.stores name x) name ≡ Some x
@@ -47,17 +47,17 @@ module _ (d : Database) (name : Name) where
   kept_at x q true there same = sym (ap (finite.get d.stores) (same_name q name same) ∙ there)
   kept_at x q false there same = refl
 
-  unchanged : (x : Store) → finite.get d.stores name ≡ Some x → with_store d name x ≡ d
+  unchanged : (x : Store) → finite.get d.stores name ≡ Some x → with_named_store d name x ≡ d
   unchanged x there = ap (λ stores. record d { stores = stores }) (finite.same_map names_total one_name _ _ (λ q. finite.get-insert names_total d.stores name x q ∙ kept_at x q (is_same_name q name) there refl))
 
 chain_makes : (named : StoreNames) (x y : Store) (deltas : List DeltaTree) → Chain named x deltas y → (d : Database) → finite.get d.stores named.store ≡ Some x
-    → made_all deltas (Some d) ≡ Some (with_store d named.store y)
-chain_makes named x y [] is d there = ap Some (sym (unchanged d named.store x there)) ∙ ap (λ z. Some (with_store d named.store z)) is
+    → made_all deltas (Some d) ≡ Some (with_named_store d named.store y)
+chain_makes named x y [] is d there = ap Some (sym (unchanged d named.store x there)) ∙ ap (λ z. Some (with_named_store d named.store z)) is
 chain_makes named x y (delta ∷ deltas) is d there =
     let step = is.1 in
     ap (λ e. made_all deltas (made e (Some d))) step.effect
     ∙ ap (made_all deltas) (stood d named.store x is.0 step.test step.change there step.makes)
-    ∙ chain_makes named is.0 y deltas is.2 (with_store d named.store is.0) (put_there d named.store is.0)
+    ∙ chain_makes named is.0 y deltas is.2 (with_named_store d named.store is.0) (put_there d named.store is.0)
     ∙ ap Some (over_again d named.store is.0 y)
 
 both_true : (a b : Bool) → a ≡ true → b ≡ true → (a && b) ≡ true
@@ -73,7 +73,7 @@ chain_finds named x y (delta ∷ deltas) is d there =
     (ap (λ e. finds e (Some d)) step.effect ∙ ap step.test there ∙ step.passes)
     (ap (λ e. finds_all deltas (made e (Some d))) step.effect
     ∙ ap (finds_all deltas) (stood d named.store x is.0 step.test step.change there step.makes)
-    ∙ chain_finds named is.0 y deltas is.2 (with_store d named.store is.0) (put_there d named.store is.0))
+    ∙ chain_finds named is.0 y deltas is.2 (with_named_store d named.store is.0) (put_there d named.store is.0))
 
 -- ---- in a scope
 itself : (name : Name) → is_same_name name name ≡ true
