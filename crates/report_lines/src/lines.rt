@@ -14,6 +14,7 @@ pub enum Line {
         op: Text,
         error: ErrorName,
     },
+    /// The script said this value.
     Say {
         value: Value,
     },
@@ -28,21 +29,25 @@ pub enum Line {
         new_version: u64,
         number: u64,
     },
+    /// The open waits for connections that stay open.
     OpenBlocked {
         request: u32,
         old_version: u64,
         new_version: u64,
     },
+    /// The open gave a connection to the database, which has this version.
     OpenSuccess {
         request: u32,
         version: u64,
     },
+    /// The open failed.
     OpenError {
         request: u32,
         error: ErrorName,
     },
 
     // The events of a deletion:
+    /// The deletion waits for connections that stay open.
     DeleteBlocked {
         request: u32,
         old_version: u64,
@@ -52,10 +57,12 @@ pub enum Line {
         request: u32,
         number: u64,
     },
+    /// The database is gone; its version was this one, or 0 where there was none.
     DeleteSuccess {
         request: u32,
         old_version: u64,
     },
+    /// The deletion failed, and the database stands.
     DeleteError {
         request: u32,
         error: ErrorName,
@@ -68,30 +75,36 @@ pub enum Line {
         old_version: u64,
         new_version: Option<u64>,
     },
+    /// The host closed the connection.
     Closed {
         request: u32,
     },
 
     // The events of a transaction and its requests ("The IDBTransaction interface" and "The IDBRequest interface"):
+    /// The transaction was created.
     Created {
         number: u64,
         mode: Mode,
         durability: Durability,
     },
+    /// The request succeeded with this result.
     RequestSuccess {
         number: u64,
         request: u32,
         result: Value,
     },
+    /// The request failed.
     RequestError {
         number: u64,
         request: u32,
         error: ErrorName,
     },
+    /// The transaction committed.
     Complete {
         number: u64,
     },
-    /// The error is `None` where the script itself aborted; a commit that met a fault of the disk is in doubt.
+    /// The transaction aborted. The error is `None` where the script itself aborted; a commit that met a fault of the disk is in
+    /// doubt.
     Abort {
         number: u64,
         error: Option<ErrorName>,
