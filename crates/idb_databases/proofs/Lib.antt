@@ -1,2 +1,3 @@
 pub mod ByNames
 pub mod Places
+pub mod Laws

@@ -10,7 +10,7 @@ use idb_base::NoMemory;
 use std::cmp::Ordering;
 
 /// The place of the name, or the place where it would stand. It halves.
-pub(crate) fn place_in<V: Drop>(items: &[(Text, V)], name: &Text) -> Result<usize, usize>
+pub fn place_in<V: Drop>(items: &[(Text, V)], name: &Text) -> Result<usize, usize>
     requires { IsSorted name_cmp items.now }
     ensures found { IfOk result (λ place. HasKeyAt name_cmp items.now place name.now) }
     ensures absent { IfErr result (λ place. BelongsAt name_cmp items.now place name.now) }
@@ -38,8 +38,8 @@ pub(crate) fn nth_in<V: Drop>(items: &[(Text, V)], place: usize) -> Option<&V>
     }
 }
 
-/// What has the name; `None` where nothing has.
-pub(crate) fn find_in<'a, V: Drop>(items: &'a [(Text, V)], name: &Text) -> Option<&'a V>
+/// What has the name, found by halving; `None` where nothing has.
+pub fn find_in<'a, V: Drop>(items: &'a [(Text, V)], name: &Text) -> Option<&'a V>
     requires { IsSorted name_cmp items.now }
     ensures { option_copied result ≡ find name_cmp name.now items.now }
 {

@@ -46,7 +46,7 @@ use Rattle.list_machine.specs.States.{State, fresh_state, opening_changes}
 use Rattle.list_machine.specs.Requests.{StoreHere, store_under, store_asked, Work, work_here, work_of, changing}
 use Rattle.list_machine.specs.Entries.{resulted, came, came_unless, done_on, done_by_work, done_by_request, done_by_turn, only_answered, names_of_store, with_done, with_turn_taken, ran_change, deltas_of_call, stop_of_change, is_past_limit, bytes_to_store}
 use Rattle.list_machine.specs.Machine.{Reacts, Writes, Handles, lent, returned, Turn, GoesOn, Begins, Goes, with_entries}
-use Rattle.list_machine.specs.Noting.{Noted, IsRaised, CanTake, IsChecked, Runnable, FirstRunnable, IsRunnable}
+use Rattle.list_machine.specs.Noting.{Noted, IsRaised, CanTake, IsChecked, Runnable, FirstRunnable}
 use Rattle.machine_laws.specs.Keeping.{info_named, AreApart, Shows, TakesValue, IsCheckedBy, IsPlaced, Waits, IsState}
 use Rattle.list_machine.proofs.Laws.{Below, stands, both_true}
 use Rattle.list_machine.proofs.Laws.{noted_fresh, turn_noted}

@@ -1,7 +1,8 @@
 -- What a transaction changes is in its scope.
 --     scope_fresh           as its body left it
 --     turn_scope            after each turn that goes on
---     goes_scope            and the scope is the same through turns
+--     goes_scope            and through turns
+--     scope_made, goes_in_scope     the scope is that with which the front was made, through all turns
 use Rattle.std.proofs.Common.{◌≡◌, Bool, true, false, not, ◌&&◌, if◌then◌else◌, List, [], ◌∷◌, ◌++◌, Option, Some, None, option_map, inl, inr, refl, sym, ◌∙◌, ap, subst}
 use Rattle.std.specs.Prelude.{⊤, unwrap_or, ◌==◌}
 use Rattle.std.specs.List.{AllByRecursion}
@@ -366,6 +367,35 @@ pub goes_scope : {D L : Type 0} (reacts : Reacts D) (writes : Writes D L) (old n
 goes_scope reacts writes old _ _ Begins is = is
 goes_scope reacts writes old _ _ (Goes mid last first rest g t) is = turn_scope reacts writes mid last rest t (goes_scope reacts writes old mid first g is)
 
+-- ---- the scope itself
+abbrev Has : {D : Type 0} → Scope → State D → Type 0
+Has its state = scope_in state ≡ its
+
+has_still : {D : Type 0} (its : Scope) (state : State D) (last : Front D) → SameScope state.front last → Has its state → Has its (record state { front = last })
+has_still its state last s has = subst (λ m. record { database = state.name; access = access_of m last.scope } ≡ its) (sym s.mode)
+    (subst (λ ns. record { database = state.name; access = access_of state.front.mode ns } ≡ its) (sym s.scope) has)
+
+came_has : {D : Type 0} (its : Scope) (old : State D) (entry : ListEntry D) (entries : List (ListEntry D)) → Has its old → AllCame (Has its) (came (with_entries old entries) entry)
+came_has its old (Request request call handler) entries has =
+    let state = with_entries old entries in
+    let done = done_by_request state call in
+    limit_all (Has its) (is_past_limit state 1 (bytes_to_store call) done.changes) QuotaExceededError (resulted (with_done state done (bytes_to_store call)) request done.answer) (λ past. has)
+came_has its old (CursorTurn number call) entries has =
+    let state = with_entries old entries in
+    let turned = with_turn_taken state number call in
+    let done = done_by_turn state call (cursor_of state.front number) in
+    limit_all (Has its) (is_past_limit turned 1 0 done.changes) QuotaExceededError (resulted (with_done turned done 0) number done.answer) (λ past. has)
+came_has its old (Change call) entries has =
+    let state = with_entries old entries in
+    limit_all (Has its) (is_past_limit state 0 0 (deltas_of_call state call)) QuotaExceededError (came_unless (stop_of_change state call) (ran_change state call)) (λ past.
+    unless_all (Has its) (stop_of_change state call) (ran_change state call) (λ go. has))
+
+pub goes_in_scope : {D L : Type 0} (reacts : Reacts D) (writes : Writes D L) (old new : State D) (lines : List L) → GoesOn reacts writes old new lines → scope_in new ≡ scope_in old
+goes_in_scope reacts writes old _ _ Begins = refl
+goes_in_scope reacts writes old _ _ (Goes mid last first rest g t) = turn_all (Has (scope_in old)) reacts writes
+    (λ state entry event next how ls has h. has_still (scope_in old) state next (handled_same reacts writes state.front entry event next how ls h) has) mid last rest
+    (λ entry entries at. came_has (scope_in old) mid entry entries (goes_in_scope reacts writes old mid first g)) t
+
 -- ---- at the start
 opening_within : (m : Mode) (schema : SchemaData) (names : List Name) → AllWithin (record { database = schema.name; access = access_of m names }) (opening_changes m schema)
 opening_within mode.ReadOnly schema names = tt
@@ -377,14 +407,7 @@ opened_named mode.ReadOnly schema names before named = named
 opened_named mode.ReadWrite schema names before named = named
 opened_named mode.VersionChange schema names before named = λ not_up. cc
 
-module _ {D : Type 0} (m : Mode) (schema : SchemaData) (scope : List Name) (before : Option Database) (named : Named m scope before) where
-  new_scope : StaysInScope {D = D} (fresh_state (new_front m schema scope) schema before)
-  new_scope = record { changes = opening_within m schema scope; stores = opened_named m schema scope before named; list = tt }
-
-  of_body : (front : Front D) → SameScope (new_front m schema scope) front → StaysInScope (fresh_state front schema before)
-  of_body front s = subst (λ k. StaysInScope (record (fresh_state (new_front m schema scope) schema before) { front = front; database = made_all (opening_changes k schema) before; changes = opening_changes k schema })) (sym s.mode)
-      (same_scope (fresh_state (new_front m schema scope) schema before) front s new_scope)
-
+module _ {D : Type 0} (m : Mode) (schema : SchemaData) (scope : List Name) where
   rested_same : (body : Front D) → SameScope (new_front m schema scope) body → SameScope (new_front m schema scope) (after_rest body)
   rested_same body s = record { mode = s.mode; scope = s.scope; list = s.list }
 
@@ -394,7 +417,24 @@ module _ {D : Type 0} (m : Mode) (schema : SchemaData) (scope : List Name) (befo
     | false ↦ rested_same body s
   ]
 
+  named_scope : (before : Option Database) (front : Front D) → SameScope (new_front m schema scope) front → scope_in (fresh_state front schema before) ≡ record { database = schema.name; access = access_of m scope }
+  named_scope before front s = ap (λ k. record { database = schema.name; access = access_of k front.scope }) s.mode ∙ ap (λ ns. record { database = schema.name; access = access_of m ns }) s.scope
+
+  pub scope_made : (before : Option Database) (body : Front D) → Becomes (new_front m schema scope) body → (scope_in (fresh_state (after_rest body) schema before) ≡ record { database = schema.name; access = access_of m scope })
+      × (scope_in (fresh_state (after_throw body) schema before) ≡ record { database = schema.name; access = access_of m scope })
+  scope_made before body b =
+      let s = becomes_same (new_front m schema scope) body b in
+      (named_scope before (after_rest body) (rested_same body s), named_scope before (after_throw body) (thrown_same body s))
+
+module _ {D : Type 0} (m : Mode) (schema : SchemaData) (scope : List Name) (before : Option Database) (named : Named m scope before) where
+  new_scope : StaysInScope {D = D} (fresh_state (new_front m schema scope) schema before)
+  new_scope = record { changes = opening_within m schema scope; stores = opened_named m schema scope before named; list = tt }
+
+  of_body : (front : Front D) → SameScope (new_front m schema scope) front → StaysInScope (fresh_state front schema before)
+  of_body front s = subst (λ k. StaysInScope (record (fresh_state (new_front m schema scope) schema before) { front = front; database = made_all (opening_changes k schema) before; changes = opening_changes k schema })) (sym s.mode)
+      (same_scope (fresh_state (new_front m schema scope) schema before) front s new_scope)
+
   pub scope_fresh : (body : Front D) → Becomes (new_front m schema scope) body → StaysInScope (fresh_state (after_rest body) schema before) × StaysInScope (fresh_state (after_throw body) schema before)
   scope_fresh body b =
       let s = becomes_same (new_front m schema scope) body b in
-      (of_body (after_rest body) (rested_same body s), of_body (after_throw body) (thrown_same body s))
+      (of_body (after_rest body) (rested_same m schema scope body s), of_body (after_throw body) (thrown_same m schema scope body s))

@@ -20,7 +20,7 @@ use std::alloc::Global;
 
 impl<H: Drop> TxFront<H> {
     /// The cursor that the request of this number opened.
-    pub(crate) fn cursor_of(&self, number: u32) -> Option<&FrontCursor<H>>
+    pub fn cursor_of(&self, number: u32) -> Option<&FrontCursor<H>>
         ensures { option_copied result ≡ cursor_of self.now number }
     {
         cursor_in(&self.cursors, self.next, number)

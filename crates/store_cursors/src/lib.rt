@@ -3,7 +3,7 @@
 
 mod shown;
 
-pub use shown::{Member, member_laws, take_turn};
+pub use shown::{Member, member_at, member_laws, take_turn};
 
 #[cfg(test)]
 mod tests;

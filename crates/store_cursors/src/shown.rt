@@ -89,7 +89,7 @@ fn place_taken<T: Tables>(
 }
 
 /// The member at this place. Over an index its value is that of the record to which the row leads.
-fn member_at<'a, T: Tables>(
+pub fn member_at<'a, T: Tables>(
     store: &'a StoreVersion<T>,
     over: Over,
     place: usize,

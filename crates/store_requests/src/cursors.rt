@@ -51,8 +51,8 @@ pub fn turn_cursor<T: Tables>(
     }
 }
 
-/// The Object of a member.
-fn member_value(
+/// The Object of a member, as a cursor answers it.
+pub fn member_value(
     alloc: Global,
     keys_only: bool,
     key: &Key,

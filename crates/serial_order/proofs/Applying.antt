@@ -1,0 +1,79 @@
+-- What a committed transaction leaves is what its requests made, and applies where it stands.
+use Rattle.std.proofs.Common.{◌≡◌, Bool, true, false, ◌&&◌, if◌then◌else◌, List, [], ◌∷◌, inl, inr, refl, sym, ◌∙◌, ap, subst}
+use Rattle.std.specs.Prelude.{⊤}
+use Rattle.std.specs.Bool.{MatchBool}
+use Rattle.std.proofs.lemmas.Bool.{cases_Bool}
+use Rattle.idb_calls.specs.Deltas.{DeltaTree}
+use Rattle.idb_calls.specs.declared.traces.Outcome.{Outcome}
+use Rattle.idb_calls.specs.declared.traces.Outcome.TheVariants.{Committed, Aborted}
+use Rattle.item_changes.specs.Items.{Items}
+use Rattle.item_changes.specs.Effects.{applied_all, all_apply, finds_all, made_all}
+use Rattle.item_changes.specs.Scopes.{Scope, Whole, part_of}
+use Rattle.item_changes.proofs.Laws.{applies_all, inside_all}
+use Rattle.request_lists.specs.Placing.{after_rest, after_throw}
+use Rattle.list_machine.specs.declared.steps.Step.TheVariants as step
+use Rattle.list_machine.specs.States.{State, fresh_state}
+use Rattle.list_machine.specs.Machine.{Reacts, Writes, Runs}
+use Rattle.list_machine.proofs.Laws.{Below, goes_keeps, turn_ends}
+use Rattle.machine_laws.specs.Keeping.{IsState}
+use Rattle.machine_laws.proofs.Laws.{KeyLaws, state_fresh, run_state}
+use Rattle.serial_order.specs.FinishEntries.{ScriptedBody, TxBody, Scripted, Deletion, FinishEntry, front_left, scope_of_body, scope_of_entry, is_committed, changes_kept}
+use Rattle.serial_order.specs.SerialRuns.{ScriptedRun, RunsOn, RunsAlone, IsSerial}
+use Rattle.serial_order.specs.NumberOrder.{FitsItems, FitsWhole, EachFits, EachApplies}
+use Rattle.serial_order.proofs.Leaving.{kept_none, kept_within, run_out_within, runs_on}
+
+module _ {D L : Type 0} (reacts : Reacts D) (writes : Writes D L) (below : Below) (laws : KeyLaws) where
+  abbrev its : ScriptedBody D → Scope
+  its body = scope_of_body (Scripted body)
+
+  abbrev begun : Items → ScriptedBody D → State D
+  begun items body = fresh_state (front_left body) body.schema (part_of (its body) items)
+
+  -- the last state of a run in which every request has run
+  record Ended (items : Items) (body : ScriptedBody D) (changes : List DeltaTree) (new : State D) : Type 0 where
+    pub find : finds_all changes (part_of (its body) items) ≡ true
+    pub make : made_all changes (part_of (its body) items) ≡ new.database
+
+  out_ended : (items : Items) (body : ScriptedBody D) (lines : List L) (changes : List DeltaTree) → FitsWhole (part_of (its body) items) body
+      → (run : ScriptedRun reacts writes (part_of (its body) items) body lines changes Committed) → Ended items body changes run.runs.new
+  out_ended items body lines changes fits run =
+      let part = part_of (its body) items in
+      let states = state_fresh laws body.mode body.schema body.names part body.front run.placed fits.schema fits.shows fits.raised in
+      let is : IsState (begun items body) = elim body.threw as (λ b. IsState (fresh_state (if b then after_throw body.front else after_rest body.front) body.schema part)) [ true ↦ states.1 | false ↦ states.0 ] in
+      let out = run.runs in
+      let goes = out.runs.goes in
+      let last = run_state below laws reacts writes (begun items body) out.runs.mid out.runs.first goes is in
+      let same = turn_ends reacts writes out.runs.mid step.Idle out.new out.runs.rest out.runs.ends in
+      let keeps = goes_keeps reacts writes (begun items body) out.runs.mid out.runs.first goes in
+      let are = out.changed ∙ ap (λ s. s.changes) same in
+      record {
+        find = ap (λ ds. finds_all ds part) are ∙ ap (finds_all out.runs.mid.changes) (sym keeps.before) ∙ last.noted.find;
+        make = ap (λ ds. made_all ds part) are ∙ ap (made_all out.runs.mid.changes) (sym keeps.before) ∙ last.noted.make ∙ sym (ap (λ s. s.database) same);
+      }
+
+  pub leaves_made : (items : Items) (body : ScriptedBody D) (lines : List L) (changes : List DeltaTree) → FitsWhole (part_of (its body) items) body
+      → ScriptedRun reacts writes (part_of (its body) items) body lines changes Committed
+      → (new : State D) × Runs reacts writes (begun items body) step.Idle new lines × (part_of (its body) (applied_all items changes) ≡ new.database)
+  leaves_made items body lines changes fits run =
+      (run.runs.new, run.runs.runs, inside_all (its body) items changes (run_out_within reacts writes items body run.placed lines changes run.runs) ∙ (out_ended items body lines changes fits run).make)
+
+  run_finds : (items : Items) (body : TxBody D) (lines : List L) (changes : List DeltaTree) (outcome : Outcome) → FitsItems (part_of (scope_of_body body) items) body
+      → RunsOn reacts writes (part_of (scope_of_body body) items) body lines changes outcome → finds_all (if is_committed outcome then changes else []) (part_of (scope_of_body body) items) ≡ true
+  run_finds items body lines changes (Aborted error doubt) fits run = refl
+  run_finds items (Scripted body) lines changes Committed fits run = (out_ended items body lines changes fits run).find
+  run_finds items (Deletion name) lines changes Committed fits run = ap (λ ds. finds_all ds (part_of (record { database = name; access = Whole }) items)) run.1 ∙ and_true _ fits
+    where
+      and_true : (b : Bool) → b ≡ true → (b && true) ≡ true
+      and_true true e = refl
+      and_true false e = e
+
+  entry_applies : (items : Items) (e : FinishEntry D L) → MatchBool e.started (FitsItems (part_of (scope_of_entry e) items) e.body) ⊤ → RunsAlone reacts writes items e → all_apply items (changes_kept e) ≡ true
+  entry_applies items e fits r = elim (cases_Bool e.started) [
+    | inr out ↦ ap (all_apply items) (kept_none reacts writes items e out r)
+    | inl is ↦ applies_all (scope_of_entry e) items (changes_kept e) (kept_within reacts writes items e r)
+        ∙ run_finds items e.body e.lines e.changes e.outcome (subst (λ b. MatchBool b (FitsItems (part_of (scope_of_entry e) items) e.body) ⊤) is fits) (runs_on reacts writes items e is r)
+  ]
+
+  pub each_applies : (items : Items) (es : List (FinishEntry D L)) → EachFits items es → IsSerial reacts writes items es → EachApplies items es
+  each_applies items [] fits s = tt
+  each_applies items (e ∷ es) fits s = (entry_applies items e fits.0 s.0, each_applies (applied_all items (changes_kept e)) es fits.1 s.1)

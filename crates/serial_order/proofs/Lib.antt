@@ -1,0 +1,5 @@
+pub mod Leaving
+pub mod Ordering
+pub mod Numbers
+pub mod Applying
+pub mod Laws

@@ -1,0 +1,3 @@
+pub mod FinishEntries
+pub mod SerialRuns
+pub mod NumberOrder
