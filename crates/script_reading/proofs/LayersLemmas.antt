@@ -1,0 +1,9 @@
+-- A list's document and the list.
+use Rattle.std.proofs.Common.{◌≡◌, List, length}
+use Rattle.serde_json.specs.Events.{items_len}
+use Rattle.serde_json.specs.View.{items_view}
+use Rattle.serde_json.specs.declared.value.Value.{Value}
+use Rattle.serde_json.proofs.Views.{items_len-items_view}
+
+pub len_items : (vs : List Value) → items_len (items_view vs) ≡ length vs
+len_items vs = items_len-items_view vs

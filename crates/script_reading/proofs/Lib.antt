@@ -1,0 +1,2 @@
+pub mod BlockPlacesLemmas
+pub mod LayersLemmas
