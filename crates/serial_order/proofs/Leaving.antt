@@ -1,14 +1,17 @@
 -- What a transaction leaves is in its scope.
 --     kept_none             one that was not started leaves nothing
 --     kept_within           what one leaves is in its scope
-use Rattle.std.proofs.Common.{◌≡◌, Bool, true, false, ◌&&◌, if◌then◌else◌, cond, List, [], ◌∷◌, Option, Some, None, inl, inr, refl, sym, ◌∙◌, ap, subst}
+use Rattle.std.proofs.Common.{◌≡◌, Bool, true, false, ◌&&◌, if◌then◌else◌, cond, List, [], ◌∷◌, ◌++◌, Option, Some, None, inl, inr, refl, sym, ◌∙◌, ap, subst}
 use Rattle.std.specs.Bool.{MatchBool}
 use Rattle.std.specs.FinMap as finite
 use Rattle.std.specs.Cmp.{tied_itself}
 use Rattle.std.proofs.lemmas.Bool.{cases_Bool}
+use Rattle.std.proofs.lemmas.Grind.{flat_map-append}
+use Rattle.std.proofs.lemmas.List.{append-nil}
 use Rattle.std.specs.Ordering.{is_eq}
 use Rattle.idb_keys.specs.declared.names.Mode.{Mode}
 use Rattle.idb_keys.specs.declared.names.Mode.TheVariants as mode
+use Rattle.idb_schema.specs.Schemas.{SchemaData}
 use Rattle.idb_calls.specs.Deltas.{DeltaTree, DropDatabase}
 use Rattle.idb_calls.specs.declared.traces.Outcome.{Outcome}
 use Rattle.idb_calls.specs.declared.traces.Outcome.TheVariants.{Committed, Aborted}
@@ -18,28 +21,27 @@ use Rattle.item_changes.specs.Scopes.{Scope, Reads, Writes as Writing, Whole, ac
 use Rattle.item_changes.proofs.Laws.{names_total, one_name}
 use Rattle.request_lists.specs.Fronts.{new_front, is_upgrade_mode}
 use Rattle.request_lists.specs.Placing.{Becomes, after_rest, after_throw}
-use Rattle.list_machine.specs.declared.steps.Step.TheVariants as step
 use Rattle.list_machine.specs.States.{State, fresh_state}
-use Rattle.list_machine.specs.Machine.{Reacts, Writes, GoesOn, Runs}
-use Rattle.list_machine.proofs.Laws.{turn_ends, both_true}
+use Rattle.list_machine.specs.Machine.{Reacts, Writes, GoesOn, Begins, Goes}
+use Rattle.list_machine.proofs.Laws.{both_true}
 use Rattle.machine_laws.specs.Limiting.{scope_in, StaysInScope}
 use Rattle.machine_laws.proofs.Laws.{scope_fresh, goes_scope, scope_made, goes_in_scope}
-use Rattle.serial_order.specs.FinishEntries.{ScriptedBody, TxBody, Scripted, Deletion, FinishEntry, front_left, scope_of_body, scope_of_entry, is_committed, changes_kept}
-use Rattle.serial_order.specs.SerialRuns.{RunsOut, RunsTo, DeletionRun, RunsOn, NeverStarts, RunsAlone}
+use Rattle.serial_order.specs.FinishEntries.{ScriptedBody, TxBody, Scripted, Deletion, FinishEntry, front_left, scope_of_body, scope_of_entry, did_commit, changes_kept}
+use Rattle.serial_order.specs.SerialRuns.{joined_lines, GoesBy, Fresh, Further, RunsOut, RunsTo, DeletionRun, RunsOn, NeverStarts, RunsAlone}
 
 -- ---- nothing
 pub kept_or_not : (b : Bool) (changes : List DeltaTree) → changes ≡ [] → (if b then changes else []) ≡ []
 kept_or_not true changes e = e
 kept_or_not false changes e = refl
 
-pub never_starts : {D L : Type 0} (reacts : Reacts D) (writes : Writes D L) (items : Items) (e : FinishEntry D L) → e.started ≡ false → RunsAlone reacts writes items e → NeverStarts reacts writes e.body e.lines e.changes e.outcome
-never_starts reacts writes items e is r = subst (λ b. MatchBool b (RunsOn reacts writes (part_of (scope_of_entry e) items) e.body e.lines e.changes e.outcome) (NeverStarts reacts writes e.body e.lines e.changes e.outcome)) is r
+pub never_starts : {D L : Type 0} (reacts : Reacts D) (writes : Writes D L) (items : Items) (e : FinishEntry D L) → e.started ≡ false → RunsAlone reacts writes items e → NeverStarts reacts writes e.body e.turns e.changes e.kept e.by_host e.outcome
+never_starts reacts writes items e is r = subst (λ b. MatchBool b (RunsOn reacts writes (part_of (scope_of_entry e) items) e.body e.turns e.changes e.kept e.by_host e.outcome) (NeverStarts reacts writes e.body e.turns e.changes e.kept e.by_host e.outcome)) is r
 
-pub runs_on : {D L : Type 0} (reacts : Reacts D) (writes : Writes D L) (items : Items) (e : FinishEntry D L) → e.started ≡ true → RunsAlone reacts writes items e → RunsOn reacts writes (part_of (scope_of_entry e) items) e.body e.lines e.changes e.outcome
-runs_on reacts writes items e is r = subst (λ b. MatchBool b (RunsOn reacts writes (part_of (scope_of_entry e) items) e.body e.lines e.changes e.outcome) (NeverStarts reacts writes e.body e.lines e.changes e.outcome)) is r
+pub runs_on : {D L : Type 0} (reacts : Reacts D) (writes : Writes D L) (items : Items) (e : FinishEntry D L) → e.started ≡ true → RunsAlone reacts writes items e → RunsOn reacts writes (part_of (scope_of_entry e) items) e.body e.turns e.changes e.kept e.by_host e.outcome
+runs_on reacts writes items e is r = subst (λ b. MatchBool b (RunsOn reacts writes (part_of (scope_of_entry e) items) e.body e.turns e.changes e.kept e.by_host e.outcome) (NeverStarts reacts writes e.body e.turns e.changes e.kept e.by_host e.outcome)) is r
 
 pub kept_none : {D L : Type 0} (reacts : Reacts D) (writes : Writes D L) (items : Items) (e : FinishEntry D L) → e.started ≡ false → RunsAlone reacts writes items e → changes_kept e ≡ []
-kept_none reacts writes items e is r = kept_or_not (is_committed e.outcome) e.changes (never_starts reacts writes items e is r).nothing
+kept_none reacts writes items e is r = kept_or_not (did_commit e.outcome) e.changes (never_starts reacts writes items e is r).nothing
 
 -- ---- the stores of the part
 left_out : (names : List Name) (d : Database) (name : Name) → is_among names name ≡ false → finite.get (finite.retain_keys d.stores (is_among names)) name ≡ None
@@ -62,6 +64,14 @@ named mode.ReadOnly names db items not_up name x at = named_among names (finite.
 named mode.ReadWrite names db items not_up name x at = named_among names (finite.get items db) name x (ap (λ o. finite.get (stores_in o) name) (sym (seen_either names (finite.get items db))) ∙ at)
 named mode.VersionChange names db items not_up name x at = cc
 
+-- ---- turns
+one_more : {L : Type 0} (turns : List (List L)) (lines : List L) → joined_lines (turns ++ lines ∷ []) ≡ joined_lines turns ++ lines
+one_more turns lines = flat_map-append (λ ls. ls) turns (lines ∷ []) ∙ ap (λ more. joined_lines turns ++ more) (append-nil lines)
+
+pub goes_on : {D L : Type 0} (reacts : Reacts D) (writes : Writes D L) (old new : State D) (turns : List (List L)) → GoesBy reacts writes old new turns → GoesOn reacts writes old new (joined_lines turns)
+goes_on reacts writes old _ _ Fresh = Begins
+goes_on reacts writes old _ _ (Further mid last turns lines by t) = subst (GoesOn reacts writes old last) (sym (one_more turns lines)) (Goes mid last (joined_lines turns) lines (goes_on reacts writes old mid turns by) t)
+
 -- ---- a body
 module _ {D L : Type 0} (reacts : Reacts D) (writes : Writes D L) (items : Items) (body : ScriptedBody D) (made : Becomes (new_front body.mode body.schema body.names) body.front) where
   abbrev its : Scope
@@ -79,23 +89,20 @@ module _ {D L : Type 0} (reacts : Reacts D) (writes : Writes D L) (items : Items
         | false ↦ (fresh.0, same.0)
       ]
 
-  goes_within : (mid : State D) (lines : List L) → GoesOn reacts writes begun mid lines → AllWithin its mid.changes
-  goes_within mid lines goes =
+  goes_within : (mid : State D) (turns : List (List L)) → GoesBy reacts writes begun mid turns → AllWithin its mid.changes
+  goes_within mid turns by =
       let b = begun_within in
-      subst (λ s. AllWithin s mid.changes) (goes_in_scope reacts writes begun mid lines goes ∙ b.1) (goes_scope reacts writes begun mid lines goes b.0).changes
+      let goes = goes_on reacts writes begun mid turns by in
+      subst (λ s. AllWithin s mid.changes) (goes_in_scope reacts writes begun mid (joined_lines turns) goes ∙ b.1) (goes_scope reacts writes begun mid (joined_lines turns) goes b.0).changes
 
-  -- the state when nothing is left to run
-  last_is : (new : State D) (lines : List L) (r : Runs reacts writes begun step.Idle new lines) → new ≡ r.mid
-  last_is new lines r = turn_ends reacts writes r.mid step.Idle new r.rest r.ends
+  pub run_out_within : (turns : List (List L)) (changes : List DeltaTree) → RunsOut reacts writes begun turns changes → AllWithin its changes
+  run_out_within turns changes out = subst (AllWithin its) (sym out.changed) (goes_within out.new turns out.goes)
 
-  pub run_out_within : (lines : List L) (changes : List DeltaTree) → RunsOut reacts writes begun lines changes → AllWithin its changes
-  run_out_within lines changes out = subst (AllWithin its) (sym (out.changed ∙ ap (λ s. s.changes) (last_is out.new lines out.runs))) (goes_within out.runs.mid out.runs.first out.runs.goes)
-
-  pub body_within : (lines : List L) (changes : List DeltaTree) (outcome : Outcome) → RunsTo reacts writes begun lines changes outcome → AllWithin its changes
-  body_within lines changes Committed r = run_out_within lines changes r
-  body_within lines changes (Aborted error true) r = run_out_within lines changes r.out
-  body_within lines changes (Aborted error false) (inl r) = subst (AllWithin its) (sym r.nothing) tt
-  body_within lines changes (Aborted error false) (inr r) = subst (AllWithin its) (sym r.nothing) tt
+  pub body_within : (turns : List (List L)) (changes : List DeltaTree) (kept : Option SchemaData) (by_host : Bool) (outcome : Outcome) → RunsTo reacts writes begun turns changes kept by_host outcome → AllWithin its changes
+  body_within turns changes kept by_host Committed r = run_out_within turns changes r.1.out
+  body_within turns changes kept by_host (Aborted error true) r = run_out_within turns changes r.2.out
+  body_within turns changes kept true (Aborted error false) r = subst (AllWithin its) (sym r.1.nothing) tt
+  body_within turns changes kept false (Aborted error false) r = subst (AllWithin its) (sym r.1.nothing) tt
 
 -- ---- a deletion
 is_name_itself : (name : Name) → is_same_name name name ≡ true
@@ -107,16 +114,16 @@ drop_within name changes e = subst (AllWithin (record { database = name; access 
     within_whole : (name : Name) → (is_same_name name name && true) ≡ true
     within_whole name = both_true _ _ (is_name_itself name) refl
 
-deletion_within : (name : Name) (changes : List DeltaTree) (outcome : Outcome) → DeletionRun name changes outcome → AllWithin (record { database = name; access = Whole }) changes
-deletion_within name changes Committed r = drop_within name changes r
-deletion_within name changes (Aborted error true) r = drop_within name changes r.1
-deletion_within name changes (Aborted error false) r = subst (AllWithin (record { database = name; access = Whole })) (sym r.1) tt
+deletion_within : (name : Name) (changes : List DeltaTree) (by_host : Bool) (outcome : Outcome) → DeletionRun name changes by_host outcome → AllWithin (record { database = name; access = Whole }) changes
+deletion_within name changes by_host Committed r = drop_within name changes r.1
+deletion_within name changes by_host (Aborted error true) r = drop_within name changes r.2
+deletion_within name changes by_host (Aborted error false) r = subst (AllWithin (record { database = name; access = Whole })) (sym r.2) tt
 
 -- ---- a transaction
-run_within : {D L : Type 0} (reacts : Reacts D) (writes : Writes D L) (items : Items) (body : TxBody D) (lines : List L) (changes : List DeltaTree) (outcome : Outcome)
-    → RunsOn reacts writes (part_of (scope_of_body body) items) body lines changes outcome → AllWithin (scope_of_body body) changes
-run_within reacts writes items (Scripted body) lines changes outcome r = body_within reacts writes items body r.placed lines changes outcome r.runs
-run_within reacts writes items (Deletion name) lines changes outcome r = deletion_within name changes outcome r.1
+run_within : {D L : Type 0} (reacts : Reacts D) (writes : Writes D L) (items : Items) (body : TxBody D) (turns : List (List L)) (changes : List DeltaTree) (kept : Option SchemaData) (by_host : Bool) (outcome : Outcome)
+    → RunsOn reacts writes (part_of (scope_of_body body) items) body turns changes kept by_host outcome → AllWithin (scope_of_body body) changes
+run_within reacts writes items (Scripted body) turns changes kept by_host outcome r = body_within reacts writes items body r.placed turns changes kept by_host outcome r.runs
+run_within reacts writes items (Deletion name) turns changes kept by_host outcome r = deletion_within name changes by_host outcome r.2
 
 kept_in : (its : Scope) (b : Bool) (changes : List DeltaTree) → AllWithin its changes → AllWithin its (if b then changes else [])
 kept_in its true changes w = w
@@ -124,6 +131,6 @@ kept_in its false changes w = tt
 
 pub kept_within : {D L : Type 0} (reacts : Reacts D) (writes : Writes D L) (items : Items) (e : FinishEntry D L) → RunsAlone reacts writes items e → AllWithin (scope_of_entry e) (changes_kept e)
 kept_within reacts writes items e r = elim (cases_Bool e.started) [
-  | inl is ↦ kept_in (scope_of_entry e) (is_committed e.outcome) e.changes (run_within reacts writes items e.body e.lines e.changes e.outcome (runs_on reacts writes items e is r))
+  | inl is ↦ kept_in (scope_of_entry e) (did_commit e.outcome) e.changes (run_within reacts writes items e.body e.turns e.changes e.kept e.by_host e.outcome (runs_on reacts writes items e is r))
   | inr out ↦ subst (AllWithin (scope_of_entry e)) (sym (kept_none reacts writes items e out r)) tt
 ]

@@ -12,7 +12,7 @@ use Rattle.item_changes.specs.Effects.{applied_all}
 use Rattle.item_changes.specs.Scopes.{Scope, scopes_conflict, part_of}
 use Rattle.item_changes.proofs.Laws.{outside_all, swap_all}
 use Rattle.list_machine.specs.Machine.{Reacts, Writes}
-use Rattle.serial_order.specs.FinishEntries.{FinishEntry, scope_of_entry, is_committed, changes_kept}
+use Rattle.serial_order.specs.FinishEntries.{FinishEntry, scope_of_entry, did_commit, changes_kept}
 use Rattle.serial_order.specs.SerialRuns.{RunsOn, NeverStarts, RunsAlone, IsSerial, items_after}
 use Rattle.serial_order.specs.NumberOrder.{both_run, IsInOrder, placed_by_number, by_number, committed_of}
 use Rattle.serial_order.proofs.Leaving.{kept_none, kept_within}
@@ -39,9 +39,9 @@ module _ {D L : Type 0} (reacts : Reacts D) (writes : Writes D L) (either_way : 
 
   -- a transaction sees of the items the part of its scope alone
   runs_by : (b : Bool) (e : Entry) (items more : Items) → (b ≡ true → part_of (scope_of_entry e) items ≡ part_of (scope_of_entry e) more)
-      → MatchBool b (RunsOn reacts writes (part_of (scope_of_entry e) items) e.body e.lines e.changes e.outcome) (NeverStarts reacts writes e.body e.lines e.changes e.outcome)
-      → MatchBool b (RunsOn reacts writes (part_of (scope_of_entry e) more) e.body e.lines e.changes e.outcome) (NeverStarts reacts writes e.body e.lines e.changes e.outcome)
-  runs_by true e items more same r = subst (λ part. RunsOn reacts writes part e.body e.lines e.changes e.outcome) (same refl) r
+      → MatchBool b (RunsOn reacts writes (part_of (scope_of_entry e) items) e.body e.turns e.changes e.kept e.by_host e.outcome) (NeverStarts reacts writes e.body e.turns e.changes e.kept e.by_host e.outcome)
+      → MatchBool b (RunsOn reacts writes (part_of (scope_of_entry e) more) e.body e.turns e.changes e.kept e.by_host e.outcome) (NeverStarts reacts writes e.body e.turns e.changes e.kept e.by_host e.outcome)
+  runs_by true e items more same r = subst (λ part. RunsOn reacts writes part e.body e.turns e.changes e.kept e.by_host e.outcome) (same refl) r
   runs_by false e items more same r = r
 
   undisturbed : (e f : Entry) (items at : Items) → both_run e f ≡ false → RunsAlone reacts writes at e → f.started ≡ true → part_of (scope_of_entry f) (left items e) ≡ part_of (scope_of_entry f) items
@@ -136,11 +136,11 @@ module _ {D L : Type 0} (reacts : Reacts D) (writes : Writes D L) (either_way : 
       (out.0, serial_from_number (left items e) es order.1 out.1)
 
 -- ---- what they leave
-of_outcome : {D L : Type 0} (items : Items) (e : FinishEntry D L) (es : List (FinishEntry D L)) (b : Bool) → is_committed e.outcome ≡ b
+of_outcome : {D L : Type 0} (items : Items) (e : FinishEntry D L) (es : List (FinishEntry D L)) (b : Bool) → did_commit e.outcome ≡ b
     → ((more : Items) → items_after more es ≡ items_after more (committed_of es)) → items_after (applied_all items (if b then e.changes else [])) es ≡ items_after items (if b then e ∷ committed_of es else committed_of es)
 of_outcome items e es true is rest = rest (applied_all items e.changes) ∙ ap (λ b. items_after (applied_all items (if b then e.changes else [])) (committed_of es)) (sym is)
 of_outcome items e es false is rest = rest items
 
 pub items_of_committed : {D L : Type 0} (items : Items) (es : List (FinishEntry D L)) → items_after items es ≡ items_after items (committed_of es)
 items_of_committed items [] = refl
-items_of_committed items (e ∷ es) = of_outcome items e es (is_committed e.outcome) refl (λ more. items_of_committed more es)
+items_of_committed items (e ∷ es) = of_outcome items e es (did_commit e.outcome) refl (λ more. items_of_committed more es)

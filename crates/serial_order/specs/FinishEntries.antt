@@ -4,8 +4,8 @@
 --     FinishEntry           a transaction of the finish list
 --     front_left            the front with which it begins to run
 --     scope_of_body, scope_of_entry         what it may read and change
---     is_committed, changes_kept            what it leaves: an aborted one nothing, also where its commit is in doubt
-use Rattle.std.specs.Prelude.{ℕ, Bool, true, false, if◌then◌else◌, List, []}
+--     did_commit, changes_kept              what it leaves: an aborted one nothing, also where its commit is in doubt
+use Rattle.std.specs.Prelude.{ℕ, Bool, true, false, if◌then◌else◌, List, [], Option}
 use Rattle.idb_keys.specs.declared.names.Mode.{Mode}
 use Rattle.idb_schema.specs.Schemas.{SchemaData}
 use Rattle.idb_calls.specs.Deltas.{DeltaTree}
@@ -28,13 +28,16 @@ pub data TxBody (D : Type 0) : Type 0 where
   Scripted : ScriptedBody D → TxBody D
   Deletion : Name → TxBody D
 
--- The lines are those that its handlers wrote. The changes are those with which it committed or, in doubt, would have.
+-- The lines are those that its handlers wrote, turn by turn. The changes are those with which it committed or, in doubt, would have.
+-- A committed upgrade keeps the schema that its calls left. One that was ended by the host, which is faulted, says so.
 pub record FinishEntry (D L : Type 0) : Type 0 where
   pub number : ℕ
   pub body : TxBody D
   pub started : Bool
-  pub lines : List L
+  pub turns : List (List L)
   pub changes : List DeltaTree
+  pub kept : Option SchemaData
+  pub by_host : Bool
   pub outcome : Outcome
 
 abbrev pub front_left : {D : Type 0} → ScriptedBody D → Front D
@@ -47,9 +50,9 @@ scope_of_body (Deletion name) = record { database = name; access = Whole }
 abbrev pub scope_of_entry : {D L : Type 0} → FinishEntry D L → Scope
 scope_of_entry e = scope_of_body e.body
 
-abbrev pub is_committed : Outcome → Bool
-is_committed Committed = true
-is_committed (Aborted error doubt) = false
+abbrev pub did_commit : Outcome → Bool
+did_commit Committed = true
+did_commit (Aborted error doubt) = false
 
 abbrev pub changes_kept : {D L : Type 0} → FinishEntry D L → List DeltaTree
-changes_kept e = if is_committed e.outcome then e.changes else []
+changes_kept e = if did_commit e.outcome then e.changes else []

@@ -16,7 +16,7 @@ use Rattle.request_lists.specs.Fronts.{is_upgrade_mode}
 use Rattle.list_machine.specs.States.{opening_changes}
 use Rattle.list_machine.specs.Noting.{IsRaised}
 use Rattle.machine_laws.specs.Keeping.{Shows}
-use Rattle.serial_order.specs.FinishEntries.{ScriptedBody, TxBody, Scripted, Deletion, FinishEntry, scope_of_entry, is_committed, changes_kept}
+use Rattle.serial_order.specs.FinishEntries.{ScriptedBody, TxBody, Scripted, Deletion, FinishEntry, scope_of_entry, did_commit, changes_kept}
 
 abbrev pub both_run : {D L : Type 0} → FinishEntry D L → FinishEntry D L → Bool
 both_run e f = e.started && (f.started && scopes_conflict (scope_of_entry e) (scope_of_entry f))
@@ -40,7 +40,7 @@ Rises (e ∷ es) = AllByRecursion (λ f. e.number ≤ f.number) es × Rises es
 
 abbrev pub committed_of : {D L : Type 0} → List (FinishEntry D L) → List (FinishEntry D L)
 committed_of [] = []
-committed_of (e ∷ es) = if is_committed e.outcome then e ∷ committed_of es else committed_of es
+committed_of (e ∷ es) = if did_commit e.outcome then e ∷ committed_of es else committed_of es
 
 -- ---- made by the schema of its database
 pub record FitsWhole {D : Type 0} (part : Option Database) (body : ScriptedBody D) : Type 0 where
