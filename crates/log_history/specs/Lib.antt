@@ -1,0 +1,4 @@
+pub mod Replayed
+pub mod Found
+pub mod Batching
+pub mod Kept

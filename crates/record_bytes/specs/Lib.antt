@@ -1,0 +1,4 @@
+pub mod Loggable
+pub mod Spelling
+pub mod Records
+pub mod Reading
