@@ -1,0 +1,5 @@
+pub mod Asking
+pub mod Handling
+pub mod Seeing
+pub mod Into
+pub mod Codes

@@ -1,0 +1,9 @@
+use Rattle.std.proofs.Common.{◌≡◌, ◌-◌, ◌+◌, ◌*◌, [], ◌++◌, length, map, take, drop}
+use Rattle.std.specs.List.{zip, fold}
+use Rattle.clone_values.specs.View.{tree_of, prop_of}
+use Rattle.clone_values.specs.Sameness.{put_once}
+use Rattle.script_values.specs.Evaluating.{entries_put, parts_in}
+use Rattle.script_values.proofs.forming.members_put.Given as goal
+
+abbrev pub invariant-loop-place : goal.invariant-loop-place
+invariant-loop-place l = fold put_once l.members (drop l.place l.parts) ≡ fold put_once [] l.parts
