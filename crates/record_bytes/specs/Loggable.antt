@@ -1,5 +1,5 @@
 -- Changes that a log can hold.
---     names_in, paths_in    the names that a change gives, of databases, stores and indexes;  its key paths
+--     names_of_delta, paths_in      the names that a change gives, of databases, stores and indexes;  its key paths
 --     is_logged_version     from 1 to 2^53 - 1
 --     is_logged_current     from 1 to 2^53 + 1
 --     HasLoggableParts             its numbers are in range, its key and its value can be spelled, and a generator or a
@@ -18,17 +18,17 @@ use Rattle.value_bytes.specs.KeySpelling.{key_spelling_of, SpellsKey}
 use Rattle.idb_calls.specs.Deltas.{DeltaTree, Version, DropDatabase, CreateStore, DropStore, CreateIndex, DropIndex, Put, Remove, Clear, Current}
 use Rattle.record_bytes.specs.declared.limits.TheConstants.{GREATEST_LOGGED_VERSION}
 
-abbrev pub names_in : DeltaTree → List (List ℕ)
-names_in (Version db version) = db ∷ []
-names_in (DropDatabase db) = db ∷ []
-names_in (CreateStore db store path auto) = db ∷ store ∷ []
-names_in (DropStore db store) = db ∷ store ∷ []
-names_in (CreateIndex db store index path unique multi) = db ∷ store ∷ index ∷ []
-names_in (DropIndex db store index) = db ∷ store ∷ index ∷ []
-names_in (Put db store key value) = db ∷ store ∷ []
-names_in (Remove db store key) = db ∷ store ∷ []
-names_in (Clear db store) = db ∷ store ∷ []
-names_in (Current db store current) = db ∷ store ∷ []
+abbrev pub names_of_delta : DeltaTree → List (List ℕ)
+names_of_delta (Version db version) = db ∷ []
+names_of_delta (DropDatabase db) = db ∷ []
+names_of_delta (CreateStore db store path auto) = db ∷ store ∷ []
+names_of_delta (DropStore db store) = db ∷ store ∷ []
+names_of_delta (CreateIndex db store index path unique multi) = db ∷ store ∷ index ∷ []
+names_of_delta (DropIndex db store index) = db ∷ store ∷ index ∷ []
+names_of_delta (Put db store key value) = db ∷ store ∷ []
+names_of_delta (Remove db store key) = db ∷ store ∷ []
+names_of_delta (Clear db store) = db ∷ store ∷ []
+names_of_delta (Current db store current) = db ∷ store ∷ []
 
 abbrev pub paths_in : DeltaTree → List PathSpec
 paths_in (CreateStore db store (Some path) auto) = path ∷ []
@@ -54,7 +54,7 @@ HasLoggableParts (Clear db store) = ⊤
 HasLoggableParts (Current db store current) = is_logged_current current ≡ true
 
 pub record IsNamed (delta : DeltaTree) : Type 0 where
-  pub names : AllByRecursion (λ name. is_text name ≡ true) (names_in delta)
+  pub names : AllByRecursion (λ name. is_text name ≡ true) (names_of_delta delta)
   pub paths : AllByRecursion (λ path. is_key_path path ≡ true) (paths_in delta)
 
 pub record IsLoggable (delta : DeltaTree) : Type 0 where

@@ -1,5 +1,5 @@
 -- Runs on fronts whose notes are added behind those before.
---     RunsInto, BodyRunsInto, HandledInto
+--     RunsInto, BodyRunsInto, HandledInto   a block, a body, or the event of a request
 use Rattle.std.specs.Prelude.{◌≡◌, ℕ, Bool, List, ◌++◌}
 use Rattle.idb_calls.specs.declared.events.Event.{Event}
 use Rattle.request_lists.specs.Fronts.{Front}

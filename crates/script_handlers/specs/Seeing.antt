@@ -1,5 +1,5 @@
 -- Handlers and lent fronts as plain data.
---     script_seen, lent_seen
+--     script_seen, lent_seen        a handler, and a lent front
 use Rattle.std.specs.Arc.{arc_value}
 use Rattle.request_lists.specs.Fronts.{front_map}
 use Rattle.script_handlers.specs.declared.handlers.ScriptHandler.{ScriptHandler}
