@@ -1,0 +1,11 @@
+mod Standing
+mod Starting
+mod Placed
+mod Draws
+mod Counting
+mod Settles
+mod Runs
+mod Owing
+mod Sharing
+mod Quiet
+mod Numbered

@@ -1,0 +1,10 @@
+use Rattle.std.proofs.Common.{◌∙◌, ap, sym}
+use Rattle.idb_desk.specs.Desks.{ClientStand}
+use Rattle.idb_desk.proofs.Standing.{client_there, client_nowhere}
+use Rattle.idb_desk.proofs.clients.created_by.Goals as goal
+
+pub returns-in-Some : goal.returns-in-Some
+returns-in-Some c = c.created.ensures ∙ ap (λ (x : ClientStand). x.created) (sym (client_there c.args.client c.args.clients.now c.in-Some.place c.index-clients-place.result c.in-Some.ensures c.index-clients-place.is))
+
+pub returns-in-None : goal.returns-in-None
+returns-in-None c = ap (λ (x : ClientStand). x.created) (sym (client_nowhere c.args.client c.args.clients.now c.in-None.ensures))

@@ -1,0 +1,10 @@
+use Rattle.std.proofs.Common.{◌≡◌}
+use Rattle.idb_desk.specs.Queueing.{settled_at}
+use Rattle.idb_desk.proofs.Settles.{rank_at}
+use Rattle.idb_desk.proofs.making.settle.Given as goal
+
+abbrev pub invariant-loop : goal.invariant-loop
+invariant-loop l = settled_at l.queues l.name ≡ settled_at l.initial.queues l.name
+
+abbrev pub decreases-loop : goal.decreases-loop
+decreases-loop l = rank_at l.queues l.name

@@ -1,0 +1,12 @@
+pub mod Desks
+pub mod Numbers
+pub mod Queueing
+pub mod Refusals
+pub mod Steps
+pub mod Tokens
+pub mod Waiting
+pub mod DeskRoom
+pub mod Parts
+pub mod Placing
+pub mod Handing
+pub mod Names

@@ -1,0 +1,108 @@
+// What the desk shows.
+ghost use Rattle.std.specs.Prelude.{◌≡◌, ◌+◌, Some, None, length, slice_get, option_map, IfSome};
+ghost use Rattle.std.specs.Option.{option_copied};
+ghost use Rattle.scope_desk.specs.declared.unfinished.MayStart.TheVariants.{Go};
+ghost use Rattle.scope_desk.specs.Starts.{may_start, IsUnfinished, is_numbered};
+ghost use Rattle.std.specs.List.{list_any};
+ghost use Rattle.connection_queues.specs.Machine.{schema_of};
+ghost use Rattle.name_queues.specs.Mails.{events_of};
+ghost use Rattle.idb_desk.specs.Desks.{drawn_at, asks_of, request_at};
+ghost use Rattle.idb_desk.specs.Refusals.{has_some};
+ghost use Rattle.idb_desk.specs.Steps.{desk_run, event_for};
+
+use crate::clients::{asked_by, request_of};
+use crate::desk::Desk;
+use crate::stands::{DeskRequest, DrawnTx};
+use crate::steps::DeskStep;
+use idb_schema::Schema;
+use name_queues::{ClientEvent, ConnId};
+use scope_desk::MayStart;
+
+impl Desk {
+    /// The steps so far, in order.
+    pub fn steps(&self) -> &[DeskStep]
+        ensures { result.now ≡ self.now.order }
+    {
+        self.order.as_slice()
+    }
+
+    /// The client's oldest event that it hasn't taken.
+    pub fn next_event(&self, client: u32) -> Option<ClientEvent>
+        ensures { result ≡ event_for (desk_run self.now) client }
+    {
+        self.parts.queues.next_event(client)
+    }
+
+    /// Whether the client has an event that it hasn't taken.
+    pub fn has_event(&self, client: u32) -> bool
+        ensures { result ≡ has_some (events_of (desk_run self.now).queues.mails client) }
+    {
+        crate::allowing::has_event(&self.parts.queues, client)
+    }
+
+    /// The number that is drawn next.
+    pub fn next_number(&self) -> u64
+        ensures { result ≡ (desk_run self.now).board.scopes.next }
+    {
+        self.parts.board.scopes.next()
+    }
+
+    /// The number of the client's next open or delete, counted from 1.
+    pub fn asked(&self, client: u32) -> usize
+        ensures { result ≡ length (asks_of (desk_run self.now).board.clients client) }
+    {
+        asked_by(self.parts.board.clients.as_slice(), client)
+    }
+
+    /// The open or delete of a client and number.
+    pub fn request(&self, who: ConnId) -> Option<&DeskRequest>
+        ensures { option_copied result ≡ request_at (desk_run self.now).board.clients who }
+    {
+        request_of(self.parts.board.clients.as_slice(), who)
+    }
+
+    /// The schema of a connection's database, as its last finished upgrade left it; `None` where the connection is closed.
+    pub fn schema(&self, who: ConnId) -> Option<&Schema>
+        ensures { option_copied result ≡ schema_of (desk_run self.now).queues who }
+    {
+        self.parts.queues.schema(who)
+    }
+
+    /// The transaction of this number.
+    pub fn drawn(&self, number: u64) -> Option<DrawnTx>
+        ensures { result ≡ drawn_at (desk_run self.now).board.drawn number }
+    {
+        crate::drawing::drawn_at(self.parts.board.drawn.as_slice(), number)
+    }
+
+    /// The least unfinished transaction. It looks at no other.
+    pub fn least(&self) -> Option<u64>
+        ensures first { result
+            ≡ option_map (λ t. t.number) (slice_get (desk_run self.now).board.scopes.unfinished 0) }
+        ensures may_start { IfSome result (λ number. may_start (desk_run self.now).board.scopes number ≡ Go) }
+    {
+        self.parts.board.scopes.least()
+    }
+
+    /// Whether the number is that of an unfinished transaction.
+    pub fn has_unfinished(&self, number: u64) -> bool
+        ensures { result ≡ list_any (is_numbered number) (desk_run self.now).board.scopes.unfinished }
+    {
+        self.parts.board.scopes.has(number)
+    }
+
+    /// Whether no earlier unfinished transaction conflicts with this one; else the least that does.
+    pub fn may_start(&self, number: u64) -> MayStart
+        requires { IsUnfinished (desk_run self.now).board.scopes number }
+        ensures { result ≡ may_start (desk_run self.now).board.scopes number }
+    {
+        self.parts.board.scopes.may_start(number)
+    }
+
+    /// Whether the host is faulted.
+    pub fn is_faulted(&self) -> bool
+        ensures { result ≡ (desk_run self.now).board.is_faulted }
+    {
+        self.parts.board.is_faulted
+    }
+}
