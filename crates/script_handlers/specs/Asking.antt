@@ -99,9 +99,9 @@ abbrev pub target_called : {D : Type 0} → Front D → List ℕ → Option (Lis
 target_called front name index = target_in front (store_called front name) index
 
 -- ---- what is asked
-abbrev pub asks_of : {A : Type 0} → Result A ErrorName → (A → Ask) → Ask
-asks_of (Ok x) f = f x
-asks_of (Err e) f = ask.Refused e
+abbrev pub ask_given : {A : Type 0} → Result A ErrorName → (A → Ask) → Ask
+ask_given (Ok x) f = f x
+ask_given (Err e) f = ask.Refused e
 
 -- a request with its handlers, which opens no cursor
 abbrev pub requests : Call → Option ℕ → Option ℕ → Ask
@@ -123,17 +123,17 @@ is_set o = unwrap_or o false
 
 abbrev pub ask_of : {D : Type 0} → Front D → Env → Stmt → Ask
 -- requests of a store or an index
-ask_of front env (stmt.Add store value key success error) = asks_of (store_called front store) (λ s. requests (call.Add s (given_by env.variables value) (given_key env key)) success error)
-ask_of front env (stmt.Put store value key success error) = asks_of (store_called front store) (λ s. requests (call.Put s (given_by env.variables value) (given_key env key)) success error)
-ask_of front env (stmt.Get store index query range success error) = asks_of (target_called front store index) (λ t. requests (call.Get t (given_query env query range)) success error)
-ask_of front env (stmt.GetKey store index query range success error) = asks_of (target_called front store index) (λ t. requests (call.GetKey t (given_query env query range)) success error)
-ask_of front env (stmt.Count store index query range success error) = asks_of (target_called front store index) (λ t. requests (call.Count t (given_query env query range)) success error)
-ask_of front env (stmt.GetAll store index query range count success error) = asks_of (target_called front store index) (λ t. requests (call.GetAll t (given_query env query range) (given_count env count)) success error)
-ask_of front env (stmt.GetAllKeys store index query range count success error) = asks_of (target_called front store index) (λ t. requests (call.GetAllKeys t (given_query env query range) (given_count env count)) success error)
-ask_of front env (stmt.Delete store query range success error) = asks_of (store_called front store) (λ s. requests (call.Delete s (given_query env query range)) success error)
-ask_of front env (stmt.Clear store success error) = asks_of (store_called front store) (λ s. requests (call.Clear s) success error)
-ask_of front env (stmt.OpenCursor store index query range direction success error) = asks_of (target_called front store index) (λ t. opens (call.OpenCursor t (given_query env query range) (unwrap_or direction Next)) success error)
-ask_of front env (stmt.OpenKeyCursor store index query range direction success error) = asks_of (target_called front store index) (λ t. opens (call.OpenKeyCursor t (given_query env query range) (unwrap_or direction Next)) success error)
+ask_of front env (stmt.Add store value key success error) = ask_given (store_called front store) (λ s. requests (call.Add s (given_by env.variables value) (given_key env key)) success error)
+ask_of front env (stmt.Put store value key success error) = ask_given (store_called front store) (λ s. requests (call.Put s (given_by env.variables value) (given_key env key)) success error)
+ask_of front env (stmt.Get store index query range success error) = ask_given (target_called front store index) (λ t. requests (call.Get t (given_query env query range)) success error)
+ask_of front env (stmt.GetKey store index query range success error) = ask_given (target_called front store index) (λ t. requests (call.GetKey t (given_query env query range)) success error)
+ask_of front env (stmt.Count store index query range success error) = ask_given (target_called front store index) (λ t. requests (call.Count t (given_query env query range)) success error)
+ask_of front env (stmt.GetAll store index query range count success error) = ask_given (target_called front store index) (λ t. requests (call.GetAll t (given_query env query range) (given_count env count)) success error)
+ask_of front env (stmt.GetAllKeys store index query range count success error) = ask_given (target_called front store index) (λ t. requests (call.GetAllKeys t (given_query env query range) (given_count env count)) success error)
+ask_of front env (stmt.Delete store query range success error) = ask_given (store_called front store) (λ s. requests (call.Delete s (given_query env query range)) success error)
+ask_of front env (stmt.Clear store success error) = ask_given (store_called front store) (λ s. requests (call.Clear s) success error)
+ask_of front env (stmt.OpenCursor store index query range direction success error) = ask_given (target_called front store index) (λ t. opens (call.OpenCursor t (given_query env query range) (unwrap_or direction Next)) success error)
+ask_of front env (stmt.OpenKeyCursor store index query range direction success error) = ask_given (target_called front store index) (λ t. opens (call.OpenKeyCursor t (given_query env query range) (unwrap_or direction Next)) success error)
 -- requests of the cursor at hand
 ask_of front env (stmt.Continue key) = at_cursor env (λ c. requests (call.Continue c (given_key env key)) None None)
 ask_of front env (stmt.ContinuePrimaryKey key primary_key) = at_cursor env (λ c. requests (call.ContinuePrimaryKey c (given_by env.variables key) (given_by env.variables primary_key)) None None)
@@ -147,8 +147,8 @@ ask_of front env stmt.Prevent = ask.Prevents
 -- upgrades
 ask_of front env (stmt.CreateObjectStore store key_path auto_increment) = ask.Changes (change.CreateStore store key_path (is_set auto_increment))
 ask_of front env (stmt.DeleteObjectStore store) = ask.Changes (change.DropStore store)
-ask_of front env (stmt.CreateIndex store index key_path unique multi_entry) = asks_of (store_called front store) (λ s. ask.Changes (change.CreateIndex s index key_path (is_set unique) (is_set multi_entry)))
-ask_of front env (stmt.DeleteIndex store index) = asks_of (store_called front store) (λ s. ask.Changes (change.DropIndex s index))
+ask_of front env (stmt.CreateIndex store index key_path unique multi_entry) = ask_given (store_called front store) (λ s. ask.Changes (change.CreateIndex s index key_path (is_set unique) (is_set multi_entry)))
+ask_of front env (stmt.DeleteIndex store index) = ask_given (store_called front store) (λ s. ask.Changes (change.DropIndex s index))
 -- what only tasks do
 ask_of front env _ = ask.Refused InvalidStateError
 

@@ -6,7 +6,7 @@ use Rattle.std.specs.BTreeMap.{insert_entry, is_at}
 use Rattle.std.specs.Cmp.Lexicographic.{slice_cmp}
 use Rattle.std.specs.Map.{lookup}
 use Rattle.std.specs.Ordering.{match_ordering}
-use Rattle.script_reading.specs.BlockPlaces.{with_place, places_seen}
+use Rattle.script_reading.specs.BlockPlaces.{with_block_at, places_seen}
 
 repeated : {A : Type 0} (b : Bool) (x y z : A) → cond b x z ≡ cond b x (cond b y z)
 repeated true x y z = refl
@@ -39,9 +39,9 @@ module _ (sought : List ℕ) where
       by Greater h later = rw later (swapped (is_eq (beside k)) (is_eq (beside e.0)) (Some v) (Some e.1) (found es)
           (λ q. ap is_eq (nat_list_cmp_total.congr sought (string_bytes k) (string_bytes e.0) (equal (beside k) q) ∙ h)))
 
-  noted : (k : String Global) (v : ℕ) (old later : BTreeMap (String Global) ℕ) → later.entries ≡ insert_entry string_cmp old.entries k v → places_seen later sought ≡ with_place (string_bytes k) v (places_seen old) sought
-  unfolding places_seen with_place
+  noted : (k : String Global) (v : ℕ) (old later : BTreeMap (String Global) ℕ) → later.entries ≡ insert_entry string_cmp old.entries k v → places_seen later sought ≡ with_block_at (string_bytes k) v (places_seen old) sought
+  unfolding places_seen with_block_at
   noted k v old later e = rw e (put old.entries k v ∙ ap (λ b. cond b (Some v) (found old.entries)) (is_eq-slice_cmp sought (string_bytes k)))
 
-pub all_noted : (k : String Global) (v : ℕ) (old later : BTreeMap (String Global) ℕ) → later.entries ≡ insert_entry string_cmp old.entries k v → places_seen later ≡ with_place (string_bytes k) v (places_seen old)
+pub all_noted : (k : String Global) (v : ℕ) (old later : BTreeMap (String Global) ℕ) → later.entries ≡ insert_entry string_cmp old.entries k v → places_seen later ≡ with_block_at (string_bytes k) v (places_seen old)
 all_noted k v old later e = λ i sought. noted sought k v old later e i

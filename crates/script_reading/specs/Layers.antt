@@ -14,7 +14,7 @@ use Rattle.serde_json.specs.Find.{get, as_str, as_array, as_object}
 use Rattle.script_exprs.specs.Forms.{where_so}
 use Rattle.script_reading.specs.BlockPlaces.{BlockPlaces, block_places}
 use Rattle.script_reading.specs.Fields.{no_fields, with_field}
-use Rattle.script_reading.specs.Places.{behind, ◌>>=◌, at_place}
+use Rattle.script_reading.specs.Places.{behind, ◌>>=◌, read_at}
 use Rattle.script_reading.specs.StatementForms.{field_of, complete_op}
 use Rattle.script_reading.specs.Statements.{statement}
 use Rattle.script_reading.specs.declared.fields.Fields.{Fields}
@@ -33,7 +33,7 @@ one_field o places name d fs = if bytes_eq name (codes "op") then Some fs else o
 
 abbrev pub fields_from : Op → BlockPlaces → ℕ → Fields → Members → Result (Fields × ℕ) ℕ
 fields_from o places n fs json.no_members = Ok (fs, n)
-fields_from o places n fs (json.member name d ms) = at_place n (one_field o places name d fs) >>= λ gs. fields_from o places (behind n d) gs ms
+fields_from o places n fs (json.member name d ms) = read_at n (one_field o places name d fs) >>= λ gs. fields_from o places (behind n d) gs ms
 
 abbrev pub stated_members : Data → Members
 stated_members d = unwrap_or (as_object d) json.no_members
@@ -42,12 +42,12 @@ stated_members d = unwrap_or (as_object d) json.no_members
 abbrev pub stmt_of : Op → BlockPlaces → ℕ → Data → Fields → Result (Stmt × ℕ) ℕ
 stmt_of o places n d before = do
   fs ← fields_from o places (n + 1) before (stated_members d)
-  s ← at_place n (statement o fs.0)
+  s ← read_at n (statement o fs.0)
   Ok (s, fs.1)
 
 -- the object itself is at fault where it names no statement or lacks what that needs
 unfoldable pub stmt_at : BlockPlaces → ℕ → Data → Result (Stmt × ℕ) ℕ
-stmt_at places n d = at_place n (complete_op d) >>= λ o. stmt_of o places n d no_fields
+stmt_at places n d = read_at n (complete_op d) >>= λ o. stmt_of o places n d no_fields
 
 abbrev pub stmts_from : BlockPlaces → ℕ → List Stmt → Items → Result (List Stmt × ℕ) ℕ
 stmts_from places n before json.no_items = Ok (before, n)
@@ -55,19 +55,19 @@ stmts_from places n before (json.item d ds) = stmt_at places n d >>= λ s. stmts
 
 unfoldable pub statements_at : BlockPlaces → ℕ → Data → Result (List Stmt × ℕ) ℕ
 statements_at places n d = do
-  ds ← at_place n (as_array d)
+  ds ← read_at n (as_array d)
   stmts_from places (n + 1) [] ds
 
 -- ---- blocks, one of which is `main`
 abbrev pub blocks_from : BlockPlaces → ℕ → List Block → Members → Result (List Block × ℕ) ℕ
 blocks_from places n before json.no_members = Ok (before, n)
 blocks_from places n before (json.member name d ms) =
-    at_place n (where_so (is_within_limit name) name) >>= λ name. statements_at places n d >>= λ b. blocks_from places b.1 (before ++ record { name = name; body = b.0 } ∷ []) ms
+    read_at n (where_so (is_within_limit name) name) >>= λ name. statements_at places n d >>= λ b. blocks_from places b.1 (before ++ record { name = name; body = b.0 } ∷ []) ms
 
 unfoldable pub blocks_at : ℕ → Data → Result (Client × ℕ) ℕ
 blocks_at n d = do
-  ms ← at_place n (as_object d)
-  main ← at_place n (block_places ms (codes "main"))
+  ms ← read_at n (as_object d)
+  main ← read_at n (block_places ms (codes "main"))
   blocks ← blocks_from (block_places ms) (n + 1) [] ms
   Ok (record { blocks = blocks.0; main = main }, blocks.1)
 
@@ -82,9 +82,9 @@ client_from n found (json.member name d ms) = if bytes_eq name (codes "blocks") 
 
 unfoldable pub client_at : ℕ → Data → Result (Client × ℕ) ℕ
 client_at n d = do
-  ms ← at_place n (members_with (codes "blocks") d)
+  ms ← read_at n (members_with (codes "blocks") d)
   found ← client_from (n + 1) None ms
-  client ← at_place n found.0
+  client ← read_at n found.0
   Ok (client, found.1)
 
 -- a list of one or more, and of no more than these
@@ -100,7 +100,7 @@ clients_from n before (json.item d ds) = client_at n d >>= λ c. clients_from c.
 
 unfoldable pub clients_at : ℕ → Data → Result (List Client × ℕ) ℕ
 clients_at n d = do
-  ds ← at_place n (list_of MOST_CLIENTS d)
+  ds ← read_at n (list_of MOST_CLIENTS d)
   clients_from (n + 1) [] ds
 
 -- ---- sessions: their members are `clients` and, where it is said, `end`
@@ -120,14 +120,14 @@ abbrev pub session_from : ℕ → SessionParts → Members → Result (SessionPa
 session_from n found json.no_members = Ok (found, n)
 session_from n found (json.member name d ms) =
     if bytes_eq name (codes "clients") then (clients_at n d >>= λ c. session_from c.1 (Some c.0, found.1) ms)
-    else if bytes_eq name (codes "end") then (at_place n (end_in d) >>= λ e. session_from (behind n d) (found.0, e) ms)
+    else if bytes_eq name (codes "end") then (read_at n (end_in d) >>= λ e. session_from (behind n d) (found.0, e) ms)
     else Err n
 
 unfoldable pub session_at : ℕ → Data → Result (ScriptSession × ℕ) ℕ
 session_at n d = do
-  ms ← at_place n (members_with (codes "clients") d)
+  ms ← read_at n (members_with (codes "clients") d)
   found ← session_from (n + 1) (None, false) ms
-  clients ← at_place n found.0.0
+  clients ← read_at n found.0.0
   Ok (record { clients = clients; drop_end = found.0.1 }, found.1)
 
 abbrev pub sessions_from : ℕ → List ScriptSession → Items → Result (List ScriptSession × ℕ) ℕ
@@ -136,7 +136,7 @@ sessions_from n before (json.item d ds) = session_at n d >>= λ s. sessions_from
 
 unfoldable pub sessions_at : ℕ → Data → Result (List ScriptSession × ℕ) ℕ
 sessions_at n d = do
-  ds ← at_place n (list_of MOST_SESSIONS d)
+  ds ← read_at n (list_of MOST_SESSIONS d)
   sessions_from (n + 1) [] ds
 
 -- ---- the script: `sessions` is its one member
@@ -146,9 +146,9 @@ script_from n found (json.member name d ms) = if bytes_eq name (codes "sessions"
 
 unfoldable pub script_of : Data → Result Script ℕ
 script_of d = do
-  ms ← at_place 1 (members_with (codes "sessions") d)
+  ms ← read_at 1 (members_with (codes "sessions") d)
   found ← script_from 2 None ms
-  sessions ← at_place 1 found.0
+  sessions ← read_at 1 found.0
   Ok (record { sessions = sessions })
 
 -- what the bytes are, once they were read; no document is a fault at place 0

@@ -1,6 +1,6 @@
 -- Nodes of a document by their numbers: each before those in it, the members of an object in its order.
 --     behind                the number of the next node behind a document that has this number
---     at_place              what was read of a document, or its number where it is at fault
+--     read_at               what was read of a document, or its number where it is at fault
 --     Reaches               what a call answers is what was read, or the place of the fault
 use Rattle.std.specs.Prelude.{◌≡◌, ⊤, ℕ, ◌+◌, Option, Some, None, Result, Ok, Err}
 use Rattle.serde_json.specs.Data.{Data, Items, Members}
@@ -30,9 +30,9 @@ abbrev pub ◌>>=◌ : {A B : Type 0} → Result A ℕ → (A → Result B ℕ) 
 (Ok x) >>= f = f x
 (Err p) >>= f = Err p
 
-abbrev pub at_place : {A : Type 0} → ℕ → Option A → Result A ℕ
-at_place n (Some x) = Ok x
-at_place n None = Err n
+abbrev pub read_at : {A : Type 0} → ℕ → Option A → Result A ℕ
+read_at n (Some x) = Ok x
+read_at n None = Err n
 
 -- what an error says: the place, or for want of memory nothing
 abbrev pub Refuses : {Y : Type 0} → ScriptError → Result Y ℕ → Type 0

@@ -1,7 +1,7 @@
 // Where the blocks of a client stand, by their names.
 ghost use Rattle.std.specs.Prelude.{◌≡◌, ◌+◌, IfOk, OnOk, string_bytes};
 ghost use Rattle.serde_json.specs.View.{members_view};
-ghost use Rattle.script_reading.specs.BlockPlaces.{with_place, block_places, places_seen};
+ghost use Rattle.script_reading.specs.BlockPlaces.{with_block_at, block_places, places_seen};
 
 use idb_base::NoMemory;
 use script_statements::BlockPlace;
@@ -24,7 +24,7 @@ pub(crate) fn place_of(places: &BlockPlaces, name: &str) -> Option<BlockPlace>
 #[tactic(auto, using(crate::proofs::BlockPlacesLemmas::all_noted))]
 fn note(places: &mut BlockPlaces, name: String, place: BlockPlace) -> Result<(), NoMemory>
     ensures { OnOk result (places_seen places.new
-        ≡ with_place (string_bytes name) place (places_seen places.old)) }
+        ≡ with_block_at (string_bytes name) place (places_seen places.old)) }
 {
     places.insert(name, place)?;
     Ok(())

@@ -7,7 +7,7 @@ ghost use Rattle.value_json.specs.Reading.{IsUnread};
 ghost use Rattle.clone_values.specs.WellFormed.{is_within_limit};
 ghost use Rattle.script_reading.specs.BlockPlaces.{places_seen};
 ghost use Rattle.script_reading.specs.Fields.{no_fields};
-ghost use Rattle.script_reading.specs.Places.{at_place, Reaches};
+ghost use Rattle.script_reading.specs.Places.{read_at, Reaches};
 ghost use Rattle.script_reading.specs.Layers.{one_field, fields_from, stated_members, stmt_of, stmt_at, stmts_from, statements_at, blocks_from, members_with, blocks_at, client_from, client_at, items_within, list_of, clients_from, clients_at, end_named, end_in, session_from, session_at, sessions_from, sessions_at, script_from, script_of};
 
 use crate::ScriptError;
@@ -59,7 +59,7 @@ fn field_at(
     fields: &mut Fields,
 ) -> Result<(), ScriptError>
     ensures { Reaches (λ _. fields.new) result
-        (at_place place (one_field op (places_seen blocks.now) name.now (view json.now) fields.old)) }
+        (read_at place (one_field op (places_seen blocks.now) name.now (view json.now) fields.old)) }
 {
     match one_field(alloc, op, blocks, name, json, fields) {
         Ok(()) => Ok(()),
@@ -181,7 +181,7 @@ fn statements_at(
 // The name of a block.
 fn block_name(alloc: Global, place: u64, name: &str) -> Result<Text, ScriptError>
     ensures { Reaches (λ t. t) result
-        (at_place place (if is_within_limit name.now then Some name.now else None)) }
+        (read_at place (if is_within_limit name.now then Some name.now else None)) }
 {
     if name.as_bytes().len() > GREATEST_LENGTH {
         return Err(ScriptError::BadScript { place });

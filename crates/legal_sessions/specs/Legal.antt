@@ -1,0 +1,100 @@
+-- What a session may report.
+--     FaultsFit             a commit in doubt, and what follows it, only where the host is faulted
+--     IsLegal               client runs, desk run, serial results, and the order in which transactions finished
+--     items_at_end          the databases that the session leaves
+--     commits_of            the transactions that committed and may write, as they finished
+--     IsReportOf            a report says what a legal session did
+--     IsLegalReport         there is such a session
+use Rattle.std.specs.Prelude.{◌≡◌, ℕ, Bool, true, false, not, ◌&&◌, List, [], ◌∷◌, map, filter, if◌then◌else◌, ⊤}
+use Rattle.std.specs.Bool.{MatchBool}
+use Rattle.std.specs.List.{list_any, AllByRecursion}
+use Rattle.std.specs.FinMap as finite
+use Rattle.idb_calls.specs.declared.traces.Outcome.{Outcome}
+use Rattle.idb_calls.specs.declared.traces.Outcome.TheVariants.{Committed, Aborted}
+use Rattle.idb_desk.specs.declared.steps.DeskStep.{DeskStep}
+use Rattle.idb_desk.specs.declared.steps.DeskStep.TheVariants as step
+use Rattle.idb_desk.specs.Steps.{desk_run, IsDeskRun}
+use Rattle.idb_desk.specs.Tokens.{token_of}
+use Rattle.idb_desk.specs.Waiting.{pending_of}
+use Rattle.item_changes.specs.Items.{Name, Database, Items}
+use Rattle.request_lists.specs.Fronts.{is_read_only_mode}
+use Rattle.report_lines.specs.declared.reports.Report.{Report}
+use Rattle.report_lines.specs.declared.reports.Has.{Has}
+use Rattle.report_lines.specs.declared.reports.ReportEnd.{ReportEnd}
+use Rattle.report_lines.specs.declared.reports.ReportEnd.TheVariants as end
+use Rattle.serial_order.specs.FinishEntries.{TxBody, Scripted, Deletion, FinishEntry, did_commit}
+use Rattle.serial_order.specs.SerialRuns.{items_after}
+use Rattle.serial_order.specs.NumberOrder.{IsInOrder, by_number}
+use Rattle.script_statements.specs.declared.script.ScriptSession.{ScriptSession}
+use Rattle.script_runs.specs.declared.notes.Note.{Note}
+use Rattle.script_handlers.specs.Handling.{Script}
+use Rattle.client_machine.specs.Acts.{lines_of_acts}
+use Rattle.legal_sessions.specs.Histories.{SessionHistory, desk_of, AreClientRuns, ShowsItems}
+use Rattle.legal_sessions.specs.SerialResults.{HasSerialResults, number_of_entry}
+
+-- ---- faults
+abbrev pub is_fault : DeskStep → Bool
+is_fault step.Faults = true
+is_fault _ = false
+
+abbrev pub is_in_doubt : Outcome → Bool
+is_in_doubt Committed = false
+is_in_doubt (Aborted error doubt) = doubt
+
+-- every transaction behind the one in doubt is aborted, and the host ends none before it
+abbrev pub DoubtsFit : List (FinishEntry Script Note) → Type 0
+DoubtsFit [] = ⊤
+DoubtsFit (e ∷ es) = MatchBool (is_in_doubt e.outcome)
+    (AllByRecursion (λ f. (did_commit f.outcome ≡ false) × (is_in_doubt f.outcome ≡ false)) es)
+    ((e.by_host ≡ false) × DoubtsFit es)
+
+pub record FaultsFit (h : SessionHistory) : Type 0 where
+  pub doubts : DoubtsFit h.finish
+  pub marked : list_any is_fault h.order ≡ list_any (λ e. is_in_doubt e.outcome) h.finish
+
+-- ---- legal
+pub record IsLegal (session : ScriptSession) (opening : Items) (h : SessionHistory) : Type 0 where
+  pub shows : ShowsItems h.schemas opening
+  pub clients : AreClientRuns 1 (desk_of h) session.clients h.acts
+  pub desk : IsDeskRun (desk_of h)
+  pub serial : HasSerialResults opening h
+  pub in_order : IsInOrder h.finish
+  pub faults : FaultsFit h
+
+abbrev pub items_at_end : Items → SessionHistory → Items
+items_at_end opening h = items_after opening (by_number h.finish)
+
+-- ---- the report
+abbrev pub has_of : Name × Database → Has
+has_of e = record { name = e.0; version = e.1.version }
+
+abbrev pub may_write : TxBody Script → Bool
+may_write (Scripted body) = not (is_read_only_mode body.mode)
+may_write (Deletion name) = true
+
+abbrev pub commits_of : List (FinishEntry Script Note) → List (FinishEntry Script Note)
+commits_of finish = filter (λ e. did_commit e.outcome && may_write e.body) finish
+
+abbrev pub own_end : Bool → ReportEnd
+own_end drop_end = if drop_end then end.Drop else end.Flush
+
+-- where the host is faulted the session ends by that
+abbrev pub end_of_session : ScriptSession → SessionHistory → ReportEnd
+end_of_session session h = if list_any is_fault h.order then end.Fault else own_end session.drop_end
+
+pub record IsReportOf (of : ScriptSession) (number : ℕ) (items : Items) (h : SessionHistory) (report : Report) : Type 0 where
+  pub session : report.session ≡ number
+  pub opening : report.opening ≡ map has_of (finite.entries items)
+  pub lines : report.clients ≡ map lines_of_acts h.acts
+  pub order : report.order ≡ map token_of h.order
+  pub finish : report.finish ≡ map number_of_entry h.finish
+  pub commits : report.commits ≡ map number_of_entry (commits_of h.finish)
+  pub pending : report.pending ≡ pending_of (desk_run (desk_of h))
+  pub end : report.end ≡ end_of_session of h
+
+-- the report of the session of this number, from these databases to those
+pub record IsLegalReport (session : ScriptSession) (number : ℕ) (opening : Items) (report : Report) (closing : Items) : Type 0 where
+  pub history : SessionHistory
+  pub legal : IsLegal session opening history
+  pub told : IsReportOf session number opening history report
+  pub left : closing ≡ items_at_end opening history
