@@ -1,0 +1,4 @@
+pub mod Holding
+pub mod Slots
+pub mod Live
+pub mod Changing
