@@ -1,0 +1,3 @@
+pub mod Attending
+pub mod Telling
+pub mod Cancelling

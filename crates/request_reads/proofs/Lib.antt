@@ -1,0 +1,4 @@
+pub mod Members
+pub mod Formed
+pub mod Turned
+pub mod Laws
