@@ -153,7 +153,8 @@ fn create_store<T: Tables>(
 ) -> Result<(), ChangeError>
     requires sound { IsStoreInfo info }
     requires without { info.indexes ≡ [] }
-    ensures made { OnOk result (items.new ≡ applied items.old (CreateStore db info.name info.path info.auto)) }
+    ensures made { OnOk result (items.new
+        ≡ applied items.old (CreateStore db info.name info.path info.auto)) }
     ensures found { OnOk result (applies items.old (CreateStore db info.name info.path info.auto) ≡ true) }
     ensures missing { IsErrOf result ChangeError.Missing
         → applies items.old (CreateStore db info.name info.path info.auto) ≡ false }
@@ -183,7 +184,8 @@ fn drop_store<T: Tables>(
 ) -> Result<(), ChangeError>
     ensures made { OnOk result (items.new ≡ applied items.old (DropStore db store.now)) }
     ensures found { OnOk result (applies items.old (DropStore db store.now) ≡ true) }
-    ensures missing { IsErrOf result ChangeError.Missing → applies items.old (DropStore db store.now) ≡ false }
+    ensures missing { IsErrOf result ChangeError.Missing
+        → applies items.old (DropStore db store.now) ≡ false }
     ensures kept { IsErrOf result ChangeError.Constraint → ⊥ }
     ensures unmissed { IsErrOf result ChangeError.Missing → items.new ≡ items.old }
 {

@@ -40,6 +40,7 @@ pub record StoreHere : Type 0 where
   pub database : Database
   pub store : Store
 
+-- the store of this name, where there is a database and it has one
 abbrev pub store_under : Option Database → Name → Option StoreHere
 store_under None name = None
 store_under (Some d) name = option_map (λ store. record { name = name; database = d; store = store }) (finite.get d.stores name)

@@ -1,5 +1,6 @@
 // Requests that read, and a cursor, over a small store.
 ghost use Rattle.placed_calls.specs.Fitting.{IsFitCall};
+ghost use Rattle.request_lists.specs.Placing.{IsCall};
 
 use super::*;
 use clone_values::{Items, Key, Props, Text, Texts, Value, is_cloneable, is_int, well_formed};
@@ -54,7 +55,7 @@ fn put(store: &mut Store, key: i64, n: i64) -> Result<(), Fail> {
     Ok(())
 }
 
-/// An upgrade that made the store and opened a cursor, by request 1.
+/// An upgrade that made the store and opened a cursor by its first call.
 fn new_front(alloc: Global) -> Result<(TxFront<u32>, Target), Fail> {
     let schema = Schema::new(alloc, Text::copy_of(alloc, "d")?, 1, StoreInfos::new(alloc))?;
     let mut front: TxFront<u32> = TxFront::new(
@@ -81,7 +82,10 @@ fn new_front(alloc: Global) -> Result<(TxFront<u32>, Target), Fail> {
     Ok((front, target))
 }
 
-fn open(target: Target) -> Call {
+fn open(target: Target) -> Call
+    ensures fit { IsFitCall result }
+    ensures call { IsCall result }
+{
     Call::OpenCursor {
         target,
         query: Query::Absent,

@@ -154,8 +154,8 @@ ask_of front env _ = ask.Refused InvalidStateError
 
 -- ---- values
 -- each value that is given is well formed
-abbrev pub AreGiven : List Value → Type 0
-AreGiven values = AllByRecursion (λ value. IsValue (tree_of value)) values
+abbrev pub AreWellFormed : List Value → Type 0
+AreWellFormed values = AllByRecursion (λ value. IsValue (tree_of value)) values
 
 abbrev pub IsAsk : Ask → Type 0
 IsAsk (ask.Places c success error cursor) = IsCall c

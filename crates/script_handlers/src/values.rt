@@ -4,7 +4,7 @@ ghost use Rattle.clone_values.specs.View.{tree_of};
 ghost use Rattle.clone_values.specs.WellFormed.{IsValue};
 ghost use Rattle.request_lists.specs.Placing.{value_given, values_of_query};
 ghost use Rattle.script_values.specs.Evaluating.{given_by};
-ghost use Rattle.script_handlers.specs.Asking.{given_key, given_bound, given_query, given_step, given_count, whole_step, AreGiven};
+ghost use Rattle.script_handlers.specs.Asking.{given_key, given_bound, given_query, given_step, given_count, whole_step, AreWellFormed};
 
 use clone_values::Value;
 use idb_base::NoMemory;
@@ -26,7 +26,7 @@ pub(crate) fn value(alloc: Global, env: &Env, expr: &Expr) -> Result<Value, NoMe
 /// A key that may be left out; Undefined counts as left out.
 pub(crate) fn key(alloc: Global, env: &Env, expr: &Option<Expr>) -> Result<Option<Value>, NoMemory>
     ensures key { IfOk result (λ k. k ≡ given_key env.now expr.now) }
-    ensures formed { IfOk result (λ k. AreGiven (value_given k)) }
+    ensures formed { IfOk result (λ k. AreWellFormed (value_given k)) }
 {
     let Some(expr) = expr else {
         return Ok(None);
@@ -39,7 +39,7 @@ pub(crate) fn key(alloc: Global, env: &Env, expr: &Option<Expr>) -> Result<Optio
 
 fn bound(alloc: Global, env: &Env, expr: &Option<Expr>) -> Result<Option<Value>, NoMemory>
     ensures bound { IfOk result (λ b. b ≡ given_bound env.now expr.now) }
-    ensures formed { IfOk result (λ b. AreGiven (value_given b)) }
+    ensures formed { IfOk result (λ b. AreWellFormed (value_given b)) }
 {
     match expr {
         Some(expr) => Ok(Some(value_of_expr(alloc, &env.variables, expr)?)),
@@ -55,7 +55,7 @@ pub(crate) fn query(
     range: &Option<RangeExpr>,
 ) -> Result<Query, NoMemory>
     ensures query { IfOk result (λ q. q ≡ given_query env.now expr.now range.now) }
-    ensures formed { IfOk result (λ q. AreGiven (values_of_query q)) }
+    ensures formed { IfOk result (λ q. AreWellFormed (values_of_query q)) }
 {
     if let Some(expr) = expr {
         return Ok(Query::One(value_of_expr(alloc, &env.variables, expr)?));
@@ -68,7 +68,7 @@ pub(crate) fn query(
 
 fn within(alloc: Global, env: &Env, range: &RangeExpr) -> Result<Query, NoMemory>
     ensures query { IfOk result (λ q. q ≡ given_query env.now None (Some range.now)) }
-    ensures formed { IfOk result (λ q. AreGiven (values_of_query q)) }
+    ensures formed { IfOk result (λ q. AreWellFormed (values_of_query q)) }
 {
     let lower = bound(alloc, env, &range.lower)?;
     let upper = bound(alloc, env, &range.upper)?;
