@@ -132,6 +132,13 @@ impl Queues {
         handle(&mut self.names, &mut self.boxes, client);
     }
 
+    /// The names, in the order of their bytes.
+    pub fn names(&self) -> &[Named]
+        ensures { result.now ≡ self.now.names }
+    {
+        self.names.as_slice()
+    }
+
     /// The connection, where it isn't closed.
     pub fn connection(&self, who: ConnId) -> Option<Conn>
         ensures { result ≡ conn_in self.now.names who }

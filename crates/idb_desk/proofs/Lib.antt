@@ -9,3 +9,4 @@ mod Owing
 mod Sharing
 mod Quiet
 mod Numbered
+mod Pending

@@ -10,3 +10,4 @@ pub mod Parts
 pub mod Placing
 pub mod Handing
 pub mod Names
+pub mod Databases

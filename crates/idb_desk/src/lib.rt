@@ -16,6 +16,7 @@ mod places;
 mod reads;
 mod stands;
 mod steps;
+mod waiting;
 
 pub use allowing::{GREATEST_ASK_COUNT, GREATEST_STORE_COUNT, GREATEST_VERSION};
 pub use desk::Desk;

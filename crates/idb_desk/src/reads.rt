@@ -1,22 +1,43 @@
 // What the desk shows.
-ghost use Rattle.std.specs.Prelude.{◌≡◌, ◌+◌, Some, None, length, slice_get, option_map, IfSome};
+ghost use Rattle.std.specs.Prelude.{◌≡◌, ◌+◌, Some, None, length, map, slice_get, option_map, IfSome, IfOk};
 ghost use Rattle.std.specs.Option.{option_copied};
 ghost use Rattle.scope_desk.specs.declared.unfinished.MayStart.TheVariants.{Go};
 ghost use Rattle.scope_desk.specs.Starts.{may_start, IsUnfinished, is_numbered};
 ghost use Rattle.std.specs.List.{list_any};
 ghost use Rattle.connection_queues.specs.Machine.{schema_of};
 ghost use Rattle.name_queues.specs.Mails.{events_of};
+ghost use Rattle.idb_desk.specs.Databases.{database_in, database_of};
 ghost use Rattle.idb_desk.specs.Desks.{drawn_at, asks_of, request_at};
 ghost use Rattle.idb_desk.specs.Refusals.{has_some};
 ghost use Rattle.idb_desk.specs.Steps.{desk_run, event_for};
+ghost use Rattle.idb_desk.specs.Tokens.{token_of};
+ghost use Rattle.idb_desk.specs.Waiting.{pending_of};
 
 use crate::clients::{asked_by, request_of};
 use crate::desk::Desk;
 use crate::stands::{DeskRequest, DrawnTx};
 use crate::steps::DeskStep;
+use clone_values::Text;
+use idb_base::NoMemory;
+use idb_calls::{PendingLines, Tokens};
 use idb_schema::Schema;
-use name_queues::{ClientEvent, ConnId};
+use name_queues::{ClientEvent, ConnId, Named};
 use scope_desk::MayStart;
+
+/// The schema of the database of this name.
+fn database_in<'a>(names: &'a [Named], name: &Text) -> Option<&'a Schema>
+    ensures { option_copied result ≡ database_in names.now name.now }
+{
+    for n in names {
+        if n.is_name(name.as_str()) {
+            return match &n.database {
+                Some(schema) => Some(schema),
+                None => None,
+            };
+        }
+    }
+    None
+}
 
 impl Desk {
     /// The steps so far, in order.
@@ -24,6 +45,35 @@ impl Desk {
         ensures { result.now ≡ self.now.order }
     {
         self.order.as_slice()
+    }
+
+    /// The steps so far as a report lists them.
+    pub fn tokens(&self) -> Result<Tokens, NoMemory>
+        ensures { IfOk result (λ tokens. tokens ≡ map token_of self.now.order) }
+    {
+        crate::waiting::tokens_of(self.parts.board.alloc, self.order.as_slice())
+    }
+
+    /// The opens and deletes that aren't answered, by client and request, as a report lists them.
+    #[tactic(auto, unfolding(crate::specs::Waiting::pending_of))]
+    pub fn pending(&self) -> Result<PendingLines, NoMemory>
+        ensures { IfOk result (λ lines. lines ≡ pending_of (desk_run self.now)) }
+    {
+        crate::waiting::pending_of(self.parts.board.alloc, self.parts.queues.names())
+    }
+
+    /// The names of databases, by their bytes: what exists, what runs, which requests wait, and which connections aren't closed.
+    pub fn names(&self) -> &[Named]
+        ensures { result.now ≡ (desk_run self.now).queues.names }
+    {
+        self.parts.queues.names()
+    }
+
+    /// The schema of the database of this name, as its last finished upgrade left it; `None` where there is none.
+    pub fn database(&self, name: &Text) -> Option<&Schema>
+        ensures { option_copied result ≡ database_of (desk_run self.now) name.now }
+    {
+        database_in(self.parts.queues.names(), name)
     }
 
     /// The client's oldest event that it hasn't taken.

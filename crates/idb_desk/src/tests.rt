@@ -361,6 +361,63 @@ fn readers_writers_and_refusals(rt: HostRuntime) {
     );
 }
 
+/// The steps as a report lists them, and the requests that aren't answered, each behind what it waits for: `<` a connection,
+/// `.` another request.
+fn write_end(said: &mut String, desk: &Desk) -> Result<(), NoMemory> {
+    for token in desk.tokens()?.as_slice() {
+        write_token(said, *token);
+        let _ = write!(said, " ");
+    }
+    for line in desk.pending()?.as_slice() {
+        let sign = if line.waits { '<' } else { '.' };
+        let _ = write!(
+            said,
+            "{}.{}{sign}{}.{} ",
+            line.client, line.request, line.of_client, line.of_request
+        );
+    }
+    Ok(())
+}
+
+/// Makes all edits on a desk without databases, and gives what a report would list.
+fn run_to_the_end(alloc: Global, edits: &[Edit]) -> Result<String, NoMemory> {
+    let mut desk = Desk::new(alloc, Schemas::new(alloc))?;
+    let mut said = String::new(alloc);
+    for edit in edits {
+        make(alloc, &mut desk, &mut said, edit)?;
+    }
+    said.clear();
+    write_end(&mut said, &desk)?;
+    Ok(said)
+}
+
+#[test]
+fn what_waits_at_the_end(rt: HostRuntime) {
+    let edits = [
+        Edit::Open(2, None),
+        Edit::Take(2),
+        Edit::Start(2, 1),
+        Edit::Upgraded(2, 1, 1),
+        Edit::Take(2),
+        Edit::Open(2, Some(2)),
+        Edit::Take(2),
+        Edit::Handle(2),
+        Edit::Take(2),
+        Edit::Delete(1),
+        Edit::Open(2, None),
+        Edit::OpenOther(1, 3),
+        Edit::Open(1, None),
+    ];
+    let said = match run_to_the_end(rt.alloc(), &edits) {
+        Ok(said) => said,
+        Err(_) => String::new(rt.alloc()),
+    };
+    assert!(rt;
+        said.as_str()
+            == "a2.1 e2 s1 f1 e2 a2.2 e2 d2 e2 a1.1 a2.3 a1.2 a1.3 1.1.2.2 1.3.2.2 2.2<2.1 2.3.2.2 "
+    );
+}
+
 /// A client asks so many opens of one name.
 fn ask_many(alloc: Global, desk: &mut Desk, count: u32) -> Result<(), NoMemory> {
     for _ in 0..count {

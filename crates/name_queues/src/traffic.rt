@@ -69,6 +69,13 @@ impl Traffic {
         self.queue.front().copied()
     }
 
+    /// The requests that wait, in the order asked.
+    pub fn asks(&self) -> &VecDeque<Ask>
+        ensures { result.now.items ≡ self.now.queue }
+    {
+        &self.queue
+    }
+
     /// The request at the front goes.
     pub fn next(&mut self)
         ensures { self.new ≡ record { queue = drop 1 self.old.queue; conns = self.old.conns } }
