@@ -6,7 +6,7 @@ ghost use Rattle.scope_desk.specs.Starts.{may_start, IsUnfinished, is_numbered};
 ghost use Rattle.std.specs.List.{list_any};
 ghost use Rattle.connection_queues.specs.Machine.{schema_of};
 ghost use Rattle.name_queues.specs.Mails.{events_of};
-ghost use Rattle.idb_desk.specs.Databases.{database_in, database_of};
+ghost use Rattle.idb_desk.specs.Databases.{database_in, database_under};
 ghost use Rattle.idb_desk.specs.Desks.{drawn_at, asks_of, request_at};
 ghost use Rattle.idb_desk.specs.Refusals.{has_some};
 ghost use Rattle.idb_desk.specs.Steps.{desk_run, event_for};
@@ -71,7 +71,7 @@ impl Desk {
 
     /// The schema of the database of this name, as its last finished upgrade left it; `None` where there is none.
     pub fn database(&self, name: &Text) -> Option<&Schema>
-        ensures { option_copied result ≡ database_of (desk_run self.now) name.now }
+        ensures { option_copied result ≡ database_under (desk_run self.now) name.now }
     {
         database_in(self.parts.queues.names(), name)
     }
