@@ -1,0 +1,245 @@
+-- A transaction that finishes keeps a session under way.
+--     ended_under_way       it leaves, after some turns more or none, and its client is told
+--     finish_under_way      one that ran
+--     cancel_under_way      one that never started
+use Rattle.std.proofs.Common.{◌≡◌, ℕ, zero, suc, ◌+◌, true, false, not, ◌&&◌, List, [], ◌∷◌, ◌++◌, map, filter, slice_get, slice_set, if◌then◌else◌, Option, Some, None, refl, sym, ◌∙◌, ap, subst}
+use Rattle.std.specs.Prelude.{◌==◌}
+use Rattle.std.specs.List.{find, AllByRecursion}
+use Rattle.std.proofs.lemmas.List.{append-nil, append_assoc, map-append}
+use Rattle.std.proofs.lemmas.List.Elements.{filter-append}
+use Rattle.idb_schema.specs.Schemas.{SchemaData}
+use Rattle.idb_calls.specs.Deltas.{DeltaTree}
+use Rattle.idb_calls.specs.declared.traces.Outcome.{Outcome}
+use Rattle.idb_desk.specs.declared.steps.DeskStep.TheVariants as step
+use Rattle.idb_desk.specs.Steps.{DeskRun, desk_run, IsDeskRun}
+use Rattle.item_changes.specs.Items.{Items}
+use Rattle.item_changes.specs.Effects.{applied_all}
+use Rattle.item_changes.specs.Scopes.{part_of}
+use Rattle.serial_order.specs.FinishEntries.{TxBody, Scripted, Deletion, FinishEntry, scope_of_body, did_commit, changes_kept}
+use Rattle.serial_order.specs.SerialRuns.{joined_lines, RunsOn, NeverStarts, RunsAlone, IsSerial, items_after}
+use Rattle.script_statements.specs.declared.script.Client.{Client}
+use Rattle.script_statements.specs.declared.script.ScriptSession.{ScriptSession}
+use Rattle.script_runs.specs.declared.notes.Note.{Note}
+use Rattle.script_handlers.specs.Handling.{Script, ScriptReacts, ScriptWrites}
+use Rattle.client_machine.specs.Acts.{Told, Act, Makes, TakesTurn, txs_begun}
+use Rattle.client_machine.specs.Answering.{MadeAtOnce}
+use Rattle.client_machine.specs.ClientStates.{ClientTx, ClientState, is_tx, tx_at, without_tx, with_notes}
+use Rattle.client_machine.specs.ClientSteps.{ClientStep, FinishesTx, FinishesUnstarted, EndsTx}
+use Rattle.client_ties.specs.Unfinished.{least_of, Draws}
+use Rattle.client_ties.specs.Ties.{shown_tx}
+use Rattle.client_ties.proofs.Laws.{IsSound, Grows, grows_end, notes_txs, made_split, made_before}
+use Rattle.legal_sessions.specs.SerialResults.{number_of_entry}
+use Rattle.legal_sessions.specs.Legal.{is_in_doubt, may_write, commits_of}
+use Rattle.session_states.specs.Sessions.{SeatNow, SessionNow, with_seat, with_finished}
+use Rattle.session_states.specs.Telling.{told_by_entry, BegunAt, begun_at, txs_at, RunningTx, turns_so_far}
+use Rattle.session_states.specs.UnderWay.{HasBegun, IsFinishedAs, AreFinishedAs, IsWhole, IsUnderWay}
+use Rattle.session_states.specs.Moves.{Moves, entry_ran, entry_dropped}
+use Rattle.session_states.proofs.Told.{made_calm, tame_silent, set_same}
+use Rattle.session_states.proofs.Placed.{SeatAt}
+use Rattle.session_states.proofs.Beginnings.{equal_self, txs_more, txs_still, first_apart}
+use Rattle.session_states.proofs.Passing.{found_first, left_apart, finished_still, begun_grows}
+use Rattle.session_states.proofs.Turning.{begun_leaves, told_left, leave_others}
+use Rattle.session_states.proofs.Moving.{there, is_there, made_there, seats_moved, still_shown, none_silent, apart_silent, own_here, others_left, waits_first, runs_first}
+
+abbrev Entry : Type 0
+Entry = FinishEntry Script Note
+
+-- ---- one entry more
+all_end : {X : Type 0} (P : X → Type 0) (xs : List X) (x : X) → AllByRecursion P xs → P x → AllByRecursion P (xs ++ x ∷ [])
+all_end P [] x all p = (p, tt)
+all_end P (y ∷ ys) x all p = (all.0, all_end P ys x all.1 p)
+
+finished_end : (order : _) (acts : List (List Act)) (bs : List BegunAt) (es : List Entry) (b : BegunAt) (e : Entry) → AreFinishedAs order acts bs es → IsFinishedAs order acts b e → AreFinishedAs order acts (bs ++ b ∷ []) (es ++ e ∷ [])
+finished_end order acts [] [] b e are is = (is, tt)
+finished_end order acts [] (f ∷ es) b e are is = absurd are
+finished_end order acts (c ∷ bs) [] b e are is = absurd are
+finished_end order acts (c ∷ bs) (f ∷ es) b e are is = (are.0, finished_end order acts bs es b e are.1 is)
+
+items_end : (items : Items) (es : List Entry) (e : Entry) → items_after items (es ++ e ∷ []) ≡ applied_all (items_after items es) (changes_kept e)
+items_end items [] e = refl
+items_end items (f ∷ es) e = items_end (applied_all items (changes_kept f)) es e
+
+serial_end : (items : Items) (es : List Entry) (e : Entry) → IsSerial ScriptReacts ScriptWrites items es → RunsAlone ScriptReacts ScriptWrites (items_after items es) e → IsSerial ScriptReacts ScriptWrites items (es ++ e ∷ [])
+serial_end items [] e serial runs = (runs, tt)
+serial_end items (f ∷ es) e serial runs = (serial.0, serial_end (applied_all items (changes_kept f)) es e serial.1 runs)
+
+commits_end : (es : List Entry) (e : Entry) → map number_of_entry (commits_of (es ++ e ∷ [])) ≡ map number_of_entry (commits_of es) ++ map number_of_entry (commits_of (e ∷ []))
+commits_end es e = ap (map number_of_entry) (filter-append (λ (f : Entry). did_commit f.outcome && may_write f.body) es (e ∷ [])) ∙ map-append number_of_entry (commits_of es) (commits_of (e ∷ []))
+
+set_twice : {X : Type 0} (xs : List X) (i : ℕ) (x y : X) → slice_set (slice_set xs i x) i y ≡ slice_set xs i y
+set_twice [] i x y = refl
+set_twice (z ∷ zs) zero x y = refl
+set_twice (z ∷ zs) (suc i) x y = ap (λ l. z ∷ l) (set_twice zs i x y)
+
+-- ---- a transaction leaves
+module _ (session : ScriptSession) (opening : Items) (now : SessionNow) (running : Option RunningTx) (place : ℕ) (script : Client) (before seat : SeatNow) (turns : List (List Note)) (outcome : Outcome) (kept : Option SchemaData) (told : Told) (ends : List Act) (r : DeskRun)
+    (u : IsUnderWay session opening now running) (b : BegunAt) (rest : List BegunAt) (are : u.waiting ≡ b ∷ rest) (here : b.place ≡ place)
+    (m : Moves session now place script before (map (TakesTurn b.tx.number) turns ++ Makes (step.Leaves before.client.number b.tx.number outcome kept) told ∷ ends) r seat) where
+  abbrev lead : List Act
+  lead = map (TakesTurn b.tx.number) turns ++ Makes (step.Leaves before.client.number b.tx.number outcome kept) told ∷ []
+
+  abbrev acts : List Act
+  acts = map (TakesTurn b.tx.number) turns ++ Makes (step.Leaves before.client.number b.tx.number outcome kept) told ∷ ends
+
+  together : lead ++ ends ≡ acts
+  together = append_assoc (map (TakesTurn b.tx.number) turns) (Makes (step.Leaves before.client.number b.tx.number outcome kept) told ∷ []) ends
+
+  abbrev at : SeatAt 0 now.run u.waiting session.clients u.acts place before
+  at = there session opening now running place script before seat acts r u m
+
+  cut : (mid : DeskRun) × (MadeAtOnce (place + 1) now.run lead mid × MadeAtOnce (place + 1) mid ends r)
+  cut = made_split (place + 1) now.run r lead ends (subst (λ l. MadeAtOnce (place + 1) now.run l r) (sym together) (made_there session opening now running place script before seat acts r u m))
+
+  mid_run : IsDeskRun cut.0
+  mid_run = made_before (place + 1) cut.0 r ends cut.1.1 m.run
+
+  begun : HasBegun now.run u.acts running u.done (b ∷ rest)
+  begun = subst (HasBegun now.run u.acts running u.done) are u.begun
+
+  abbrev acts_left : List (List Act)
+  acts_left = slice_set u.acts place (at.own ++ lead)
+
+  left_there : slice_get acts_left place ≡ Some (at.own ++ lead)
+  left_there = set_same u.acts place at.own (at.own ++ lead) at.own_at
+
+  same_acts : slice_set acts_left place ((at.own ++ lead) ++ ends) ≡ slice_set u.acts place (at.own ++ acts)
+  same_acts = set_twice u.acts place (at.own ++ lead) ((at.own ++ lead) ++ ends) ∙ ap (slice_set u.acts place) (append_assoc at.own lead ends ∙ ap (λ l. at.own ++ l) together)
+
+  has_left : HasBegun cut.0 acts_left None (u.done ++ b ∷ []) rest
+  has_left = begun_leaves now.run cut.0 u.acts place before.client.number at.own running turns outcome kept told u.done rest b at.own_at cut.1.0 mid_run begun here
+
+  module _ (c : ClientState) (number : c.number ≡ before.client.number) (txs : c.txs ≡ txs_at place rest) (g : Grows c ends seat.client) (moves : ClientStep script.blocks before.client acts seat.client)
+      (e : Entry) (is_number : e.number ≡ b.tx.number) (is_body : e.body ≡ b.tx.body) (is_told : record { started = b.tx.started; left = Some (outcome, kept); turns = turns_so_far running b.tx.number ++ turns } ≡ told_by_entry e)
+      (whole : IsWhole e) (runs : RunsAlone ScriptReacts ScriptWrites now.items e) where
+    draws : Draws (desk_run cut.0) (map (shown_tx (place + 1)) (txs_begun ends)) (desk_run r)
+    draws =
+        let is : c.number ≡ place + 1 = number ∙ (is_there session opening now running place script before seat acts r u m).number in
+        subst (λ n. MadeAtOnce n cut.0 ends r → Draws (desk_run cut.0) (map (shown_tx n) (txs_begun ends)) (desk_run r)) is (λ made. g.desk cut.0 r made m.run) cut.1.1
+
+    abbrev later : List BegunAt
+    later = rest ++ map (begun_at place) (txs_begun ends)
+
+    has_ended : HasBegun r (slice_set u.acts place (at.own ++ acts)) None (u.done ++ b ∷ []) later
+    has_ended = subst (λ l. HasBegun r l None (u.done ++ b ∷ []) later) same_acts
+        (begun_grows cut.0 r acts_left place (at.own ++ lead) ends left_there cut.1.1 None (u.done ++ b ∷ []) rest has_left g.tame g.fresh draws)
+
+    each_ended : AreFinishedAs r.order (slice_set u.acts place (at.own ++ acts)) (u.done ++ b ∷ []) (u.entries ++ e ∷ [])
+    each_ended =
+        let apart = first_apart (desk_run now.run).board.scopes.next u.done b rest begun.numbers in
+        let old = finished_still now.run cut.0 u.acts place at.own lead at.own_at cut.1.0 u.done u.entries
+        (apart_silent lead b.tx.number u.done (leave_others now.run cut.0 u.acts place before.client.number at.own running turns outcome kept told u.done rest b at.own_at cut.1.0 mid_run begun here) apart.0) u.finished.each in
+        let new : IsFinishedAs cut.0.order acts_left b e = record {
+          number = is_number;
+          body = is_body;
+          told = told_left now.run cut.0 u.acts place before.client.number at.own running turns outcome kept told u.done rest b at.own_at cut.1.0 mid_run begun here ∙ is_told;
+        } in
+        subst (λ l. AreFinishedAs r.order l (u.done ++ b ∷ []) (u.entries ++ e ∷ [])) same_acts
+        (finished_still cut.0 r acts_left place (at.own ++ lead) ends left_there cut.1.1 (u.done ++ b ∷ []) (u.entries ++ e ∷ []) (none_silent ends (u.done ++ b ∷ []) (λ n. tame_silent n ends g.tame))
+        (finished_end cut.0.order acts_left u.done u.entries b e old new))
+
+    pub ended_under_way : IsUnderWay session opening (with_finished e (with_seat place r seat now)) None
+    ended_under_way = record {
+      acts = slice_set u.acts place (at.own ++ acts);
+      done = u.done ++ b ∷ [];
+      waiting = later;
+      entries = u.entries ++ e ∷ [];
+      shows = still_shown session opening now running place script before seat acts r u m;
+      desk = m.run;
+      calm = made_calm (place + 1) now.run r acts (made_there session opening now running place script before seat acts r u m) u.calm;
+      seats = seats_moved session opening now running place script before seat acts r u m later moves (g.number ∙ number)
+          (g.txs ∙ ap (λ l. l ++ txs_begun ends) txs ∙ sym (txs_more place rest (txs_begun ends)))
+          (λ other out. txs_still place other rest (txs_begun ends) out ∙ others_left place b rest here other out ∙ ap (txs_at other) (sym are));
+      begun = has_ended;
+      finished = record {
+        each = each_ended;
+        whole = all_end IsWhole u.entries e u.finished.whole whole;
+        serial = serial_end opening u.entries e u.finished.serial (subst (λ items. RunsAlone ScriptReacts ScriptWrites items e) u.finished.items runs);
+        items = ap (λ items. applied_all items (changes_kept e)) u.finished.items ∙ sym (items_end opening u.entries e);
+        finish = ap (λ ns. ns ++ e.number ∷ []) u.finished.finish ∙ sym (map-append number_of_entry u.entries (e ∷ []));
+        commits = ap (λ ns. ns ++ map number_of_entry (commits_of (e ∷ []))) u.finished.commits ∙ sym (commits_end u.entries e);
+      };
+    }
+
+-- ---- a transaction that ran
+left_own : (place : ℕ) (b : BegunAt) (rest : List BegunAt) (next : ℕ) (txs : List ClientTx) → txs ≡ txs_at place (b ∷ rest) → b.place ≡ place → filter (λ tx. not (is_tx b.tx.number tx)) (txs_at place rest) ≡ txs_at place rest
+    → filter (λ tx. not (is_tx b.tx.number tx)) txs ≡ txs_at place rest
+left_own place b rest next txs are here still = ap (filter (λ tx. not (is_tx b.tx.number tx))) (are ∙ own_here place b rest here)
+    ∙ ap (λ t. if not t then b.tx ∷ filter (λ tx. not (is_tx b.tx.number tx)) (txs_at place rest) else filter (λ tx. not (is_tx b.tx.number tx)) (txs_at place rest)) (equal_self b.tx.number) ∙ still
+
+module _ (sound : (q : DeskRun) → IsDeskRun q → IsSound (desk_run q)) (session : ScriptSession) (opening : Items) (now : SessionNow) (place : ℕ) (script : Client) (before seat : SeatNow) (told : Told) (ends : List Act) (r : DeskRun) (tx : ClientTx) (idle : before.client.tasks ≡ []) where
+  finish_first : (t : RunningTx) (u : IsUnderWay session opening now (Some t)) (b : BegunAt) (rest : List BegunAt) (outcome : Outcome) (kept : Option SchemaData) (changes : List DeltaTree)
+      → u.waiting ≡ b ∷ rest → b.tx.number ≡ t.number → tx.started ≡ true → is_in_doubt outcome ≡ false
+      → RunsOn ScriptReacts ScriptWrites (part_of (scope_of_body t.body) now.items) t.body t.turns changes kept false outcome
+      → Moves session now place script before (Makes (step.Leaves before.client.number b.tx.number outcome kept) told ∷ ends) r seat → tx_at before.client b.tx.number ≡ Some tx
+      → EndsTx script.blocks (without_tx before.client b.tx.number) b.tx.number outcome tx.kind ends seat.client
+      → IsUnderWay session opening (with_finished (entry_ran t changes kept outcome) (with_seat place r seat now)) None
+  finish_first t u b rest outcome kept changes are same ran sure runs m found gone =
+      let acts = Makes (step.Leaves before.client.number b.tx.number outcome kept) told ∷ ends in
+      let here = is_there session opening now (Some t) place script before seat acts r u m in
+      let begun = subst (HasBegun now.run u.acts (Some t) u.done) are u.begun in
+      let apart = first_apart (desk_run now.run).board.scopes.next u.done b rest begun.numbers in
+      let own : before.client.txs ≡ txs_at place (b ∷ rest) = here.txs ∙ ap (txs_at place) are in
+      let first = found_first place b rest tx apart.1 (ap (find (is_tx b.tx.number)) (sym own) ∙ found) in
+      let is_it : (t.number == b.tx.number) ≡ true = ap (λ n. n == b.tx.number) (sym same) ∙ equal_self b.tx.number in
+      let waits = begun.each.0 in
+      ended_under_way session opening now (Some t) place script before seat [] outcome kept told ends r u b rest are first.0 m
+      (without_tx before.client b.tx.number) refl
+      (left_own place b rest 0 before.client.txs own first.0 (left_apart place b.tx.number rest apart.1))
+      (grows_end sound script.blocks (without_tx before.client b.tx.number) b.tx.number outcome tx.kind ends seat.client gone)
+      (FinishesTx tx b.tx.number outcome kept told ends seat.client idle found ran gone)
+      (entry_ran t changes kept outcome) (sym same) (sym (ap (λ x. if x then t.body else b.tx.body) is_it) ∙ waits.body)
+      (λ i. record { started = (waits.started ∙ is_it) i; left = Some (outcome, kept); turns = (append-nil (turns_so_far (Some t) b.tx.number) ∙ ap (λ x. if x then t.turns else []) is_it) i })
+      (sure, refl) runs
+
+  abbrev FinishesInto : RunningTx → List DeltaTree → Option SchemaData → Outcome → ℕ → Type 0
+  FinishesInto t changes kept outcome number = Moves session now place script before (Makes (step.Leaves before.client.number number outcome kept) told ∷ ends) r seat → tx_at before.client number ≡ Some tx
+      → EndsTx script.blocks (without_tx before.client number) number outcome tx.kind ends seat.client
+      → IsUnderWay session opening (with_finished (entry_ran t changes kept outcome) (with_seat place r seat now)) None
+
+  pub finish_under_way : (t : RunningTx) (outcome : Outcome) (kept : Option SchemaData) (changes : List DeltaTree) → IsUnderWay session opening now (Some t) → tx.started ≡ true → is_in_doubt outcome ≡ false
+      → RunsOn ScriptReacts ScriptWrites (part_of (scope_of_body t.body) now.items) t.body t.turns changes kept false outcome → FinishesInto t changes kept outcome t.number
+  finish_under_way t outcome kept changes u ran sure runs =
+      let f = runs_first t u.waiting u.begun.first in
+      subst (FinishesInto t changes kept outcome) f.1.1.1 (finish_first t u f.0 f.1.0 outcome kept changes f.1.1.0 f.1.1.1 ran sure runs)
+
+  -- ---- one that never started
+  never_doubted : (body : TxBody Script) (turns : List (List Note)) (outcome : Outcome) → NeverStarts ScriptReacts ScriptWrites body turns [] None false outcome → is_in_doubt outcome ≡ false
+  never_doubted (Scripted body) turns outcome never = ap is_in_doubt never.cancelled.ended
+  never_doubted (Deletion name) turns outcome never = absurd (no never.cancelled.1)
+    where
+      no : false ≡ true → ⊥
+      no k = cc
+
+  cancel_first : (u : IsUnderWay session opening now None) (b : BegunAt) (rest : List BegunAt) (turns : List (List Note)) (outcome : Outcome)
+      → u.waiting ≡ b ∷ rest → tx.started ≡ false
+      → NeverStarts ScriptReacts ScriptWrites tx.body turns [] None false outcome
+      → Moves session now place script before (map (TakesTurn b.tx.number) turns ++ Makes (step.Leaves before.client.number b.tx.number outcome None) told ∷ ends) r seat → tx_at before.client b.tx.number ≡ Some tx
+      → EndsTx script.blocks (with_notes (without_tx before.client b.tx.number) (joined_lines turns)) b.tx.number outcome tx.kind ends seat.client
+      → IsUnderWay session opening (with_finished (entry_dropped b.tx.number tx.body turns outcome) (with_seat place r seat now)) None
+  cancel_first u b rest turns outcome are waits never m found gone =
+      let acts = map (TakesTurn b.tx.number) turns ++ Makes (step.Leaves before.client.number b.tx.number outcome None) told ∷ ends in
+      let here = is_there session opening now None place script before seat acts r u m in
+      let begun = subst (HasBegun now.run u.acts None u.done) are u.begun in
+      let apart = first_apart (desk_run now.run).board.scopes.next u.done b rest begun.numbers in
+      let own : before.client.txs ≡ txs_at place (b ∷ rest) = here.txs ∙ ap (txs_at place) are in
+      let first = found_first place b rest tx apart.1 (ap (find (is_tx b.tx.number)) (sym own) ∙ found) in
+      let same = notes_txs (joined_lines turns) (without_tx before.client b.tx.number) in
+      ended_under_way session opening now None place script before seat turns outcome None told ends r u b rest are first.0 m
+      (with_notes (without_tx before.client b.tx.number) (joined_lines turns)) same.1
+      (same.0 ∙ left_own place b rest 0 before.client.txs own first.0 (left_apart place b.tx.number rest apart.1))
+      (grows_end sound script.blocks (with_notes (without_tx before.client b.tx.number) (joined_lines turns)) b.tx.number outcome tx.kind ends seat.client gone)
+      (FinishesUnstarted tx b.tx.number turns outcome told ends seat.client idle found waits gone)
+      (entry_dropped b.tx.number tx.body turns outcome) refl (ap (λ (x : ClientTx). x.body) (sym first.1))
+      (λ i. record { started = begun.each.0.started i; left = Some (outcome, None); turns = turns })
+      (never_doubted tx.body turns outcome never, refl) never
+
+  abbrev CancelsInto : List (List Note) → Outcome → ℕ → Type 0
+  CancelsInto turns outcome number = Moves session now place script before (map (TakesTurn number) turns ++ Makes (step.Leaves before.client.number number outcome None) told ∷ ends) r seat → tx_at before.client number ≡ Some tx
+      → EndsTx script.blocks (with_notes (without_tx before.client number) (joined_lines turns)) number outcome tx.kind ends seat.client
+      → IsUnderWay session opening (with_finished (entry_dropped number tx.body turns outcome) (with_seat place r seat now)) None
+
+  pub cancel_under_way : (number : ℕ) (turns : List (List Note)) (outcome : Outcome) → IsUnderWay session opening now None → least_of (desk_run now.run) ≡ Some number → tx.started ≡ false
+      → NeverStarts ScriptReacts ScriptWrites tx.body turns [] None false outcome → CancelsInto turns outcome number
+  cancel_under_way number turns outcome u least waits never =
+      let f = waits_first sound now.run number u.waiting u.desk least u.begun.unfinished in
+      subst (CancelsInto turns outcome) f.1.1.1 (cancel_first u f.0 f.1.0 turns outcome f.1.1.0 waits never)

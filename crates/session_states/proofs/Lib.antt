@@ -1,0 +1,10 @@
+mod Told
+mod Placed
+mod Beginnings
+mod Ending
+mod Fresh
+mod Passing
+mod Turning
+mod Moving
+mod Finishing
+mod Ready

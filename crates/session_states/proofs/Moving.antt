@@ -1,0 +1,208 @@
+-- Steps of a client keep a session under way.
+--     waits_first, runs_first       the first that waits is the desk's least, or the one that runs
+--     tame_under_way        a task or an event
+--     start_under_way, turn_under_way       a transaction starts, or has a turn
+use Rattle.std.proofs.Common.{◌≡◌, ◌≢◌, ℕ, ◌+◌, true, false, List, [], ◌∷◌, ◌++◌, map, slice_set, if◌then◌else◌, Option, Some, None, refl, sym, ◌∙◌, ap, subst, arith}
+use Rattle.std.specs.Prelude.{◌==◌}
+use Rattle.std.specs.List.{find, AllByRecursion}
+use Rattle.std.proofs.lemmas.List.Concat.{flat_map-append}
+use Rattle.idb_desk.specs.declared.steps.DeskStep.TheVariants as step
+use Rattle.idb_desk.specs.Steps.{DeskRun, desk_run, IsDeskRun}
+use Rattle.item_changes.specs.Items.{Items}
+use Rattle.script_statements.specs.declared.script.Client.{Client}
+use Rattle.script_statements.specs.declared.script.ScriptSession.{ScriptSession}
+use Rattle.script_runs.specs.declared.notes.Note.{Note}
+use Rattle.client_machine.specs.Acts.{Told, Act, Makes, TakesTurn, txs_begun, notes_of_act, notes_of_acts}
+use Rattle.client_machine.specs.Answering.{MadeAtOnce}
+use Rattle.client_machine.specs.ClientStates.{ClientTx, ClientState, is_tx, tx_at, with_started, started_if, with_notes}
+use Rattle.client_machine.specs.ClientSteps.{ClientStep, StartsTx, RunsTurn, StepsOn, may_begin}
+use Rattle.client_machine.proofs.Laws.{agrees_own, agrees_other}
+use Rattle.client_ties.specs.Unfinished.{UnfinishedTx, unfinished_of, least_of, Draws}
+use Rattle.client_ties.specs.Ties.{shown_tx}
+use Rattle.client_ties.proofs.Laws.{IsSound, Grows, notes_txs, least_unfinished}
+use Rattle.legal_sessions.specs.Histories.{ShowsItems}
+use Rattle.session_states.specs.Sessions.{SeatNow, SessionNow, with_seat}
+use Rattle.session_states.specs.Telling.{BegunAt, begun_at, txs_at, shown_begun, RunningTx}
+use Rattle.session_states.specs.UnderWay.{IsSeatOf, AreSeats, IsFirstWaiting, HasBegun, IsUnderWay}
+use Rattle.session_states.specs.Moves.{Moves}
+use Rattle.session_states.proofs.Told.{made_order, made_calm, IsSilent, tame_silent}
+use Rattle.session_states.proofs.Placed.{SeatAt, seat_at, seats_changed}
+use Rattle.session_states.proofs.Beginnings.{some_same, equal_self, unequal, txs_more, txs_still, AreApart, first_apart}
+use Rattle.session_states.proofs.Passing.{as_started, found_first, started_apart, finished_still, begun_grows}
+use Rattle.session_states.proofs.Turning.{begun_starts, begun_turns, start_others, turn_others}
+
+-- ---- the first that waits
+heads : {X : Type 0} {x y : X} {xs ys : List X} → x ∷ xs ≡ y ∷ ys → x ≡ y
+heads e = cc
+
+first_shown : (bs : List BegunAt) (first : UnfinishedTx) (us : List UnfinishedTx) → map shown_begun bs ≡ first ∷ us → (b : BegunAt) × ((rest : List BegunAt) × ((bs ≡ b ∷ rest) × (shown_begun b ≡ first)))
+first_shown [] first us e = cc
+first_shown (b ∷ bs) first us e = (b, (bs, (refl, heads e)))
+
+pub waits_first : ((r : DeskRun) → IsDeskRun r → IsSound (desk_run r)) → (r : DeskRun) (number : ℕ) (waiting : List BegunAt) → IsDeskRun r → least_of (desk_run r) ≡ Some number → unfinished_of (desk_run r) ≡ map shown_begun waiting
+    → (b : BegunAt) × ((rest : List BegunAt) × ((waiting ≡ b ∷ rest) × (b.tx.number ≡ number)))
+waits_first sound r number waiting run least same =
+    let h = least_unfinished sound r number run least in
+    let f = first_shown waiting h.0 h.1.0 (sym same ∙ h.1.1.0) in
+    (f.0, (f.1.0, (f.1.1.0, ap (λ (u : UnfinishedTx). u.number) f.1.1.1 ∙ h.1.1.1)))
+
+pub runs_first : (t : RunningTx) (waiting : List BegunAt) → IsFirstWaiting (Some t) waiting → (b : BegunAt) × ((rest : List BegunAt) × ((waiting ≡ b ∷ rest) × (b.tx.number ≡ t.number)))
+runs_first t [] first = absurd first
+runs_first t (b ∷ bs) first = (b, (bs, (refl, first)))
+
+pub none_silent : (acts : List Act) (bs : List BegunAt) → ((number : ℕ) → IsSilent number acts) → AllByRecursion (λ (b : BegunAt). IsSilent b.tx.number acts) bs
+none_silent acts [] silent = tt
+none_silent acts (b ∷ bs) silent = (silent b.tx.number, none_silent acts bs silent)
+
+pub apart_silent : (acts : List Act) (number : ℕ) (bs : List BegunAt) → ((n : ℕ) → (n == number) ≡ false → IsSilent n acts) → AreApart number bs → AllByRecursion (λ (b : BegunAt). IsSilent b.tx.number acts) bs
+apart_silent acts number [] silent apart = tt
+apart_silent acts number (b ∷ bs) silent apart = (silent b.tx.number apart.0, apart_silent acts number bs silent apart.1)
+
+module _ (session : ScriptSession) (opening : Items) (now : SessionNow) (running : Option RunningTx) (place : ℕ) (script : Client) (before seat : SeatNow) (acts : List Act) (r : DeskRun)
+    (u : IsUnderWay session opening now running) (m : Moves session now place script before acts r seat) where
+  abbrev pub there : SeatAt 0 now.run u.waiting session.clients u.acts place before
+  there = seat_at 0 now.run u.waiting session.clients now.seats u.acts place before u.seats m.seat_at
+
+  abbrev acts_now : List (List Act)
+  acts_now = slice_set u.acts place (there.own ++ acts)
+
+  pub is_there : IsSeatOf script place now.run u.waiting before there.own
+  is_there = subst (λ x. IsSeatOf x place now.run u.waiting before there.own) (some_same (sym there.script_at ∙ m.script_at))
+      (subst (λ n. IsSeatOf there.script n now.run u.waiting before there.own) (let k : 0 + place ≡ place = omega arith in k) there.is)
+
+  pub made_there : MadeAtOnce (place + 1) now.run acts r
+  made_there = subst (λ n. MadeAtOnce n now.run acts r) is_there.number m.made
+
+  pub seats_moved : (later : List BegunAt) → ClientStep script.blocks before.client acts seat.client → seat.client.number ≡ before.client.number → seat.client.txs ≡ txs_at place later
+      → ((at : ℕ) → at ≢ place → txs_at at later ≡ txs_at at u.waiting) → AreSeats 0 r later session.clients (slice_set now.seats place seat) acts_now
+  seats_moved later moves number txs others = seats_changed 0 now.run r u.waiting later session.clients now.seats u.acts place script seat (there.own ++ acts) u.seats m.script_at
+      (subst (λ n. IsSeatOf script n r later seat (there.own ++ acts)) (let k : place ≡ 0 + place = omega arith in k) (record {
+        runs = StepsOn there.own acts before.client seat.client is_there.runs moves;
+        agrees = agrees_own (place + 1) now.run r there.own acts is_there.agrees made_there;
+        number = number ∙ is_there.number;
+        lines = m.lines ∙ ap (λ ns. ns ++ notes_of_acts acts) is_there.lines ∙ sym (flat_map-append notes_of_act there.own acts);
+        txs = txs;
+      }))
+      (λ other at s own out is. record {
+        runs = is.runs;
+        agrees = agrees_other (place + 1) (at + 1) now.run r own acts (apart at out) is.agrees made_there;
+        number = is.number;
+        lines = is.lines;
+        txs = is.txs ∙ sym (others at (λ e. out (e ∙ (let k : place ≡ 0 + place = omega arith in k))));
+      })
+    where
+      apart : (at : ℕ) → at ≢ 0 + place → at + 1 ≢ place + 1
+      apart at out e = out (let k = e in omega (arith, k))
+
+  pub still_shown : ShowsItems r.opening opening
+  still_shown = subst (λ (q : DeskRun). ShowsItems q.opening opening) (sym (made_order (place + 1) now.run r acts made_there)) u.shows
+
+  -- the transactions that finished are as they were
+  pub assembled : (next : Option RunningTx) (later : List BegunAt) → AreSeats 0 r later session.clients (slice_set now.seats place seat) acts_now → HasBegun r acts_now next u.done later
+      → AllByRecursion (λ (b : BegunAt). IsSilent b.tx.number acts) u.done → IsUnderWay session opening (with_seat place r seat now) next
+  assembled next later seats begun silent = record {
+    acts = acts_now;
+    done = u.done;
+    waiting = later;
+    entries = u.entries;
+    shows = still_shown;
+    desk = m.run;
+    calm = made_calm (place + 1) now.run r acts made_there u.calm;
+    seats = seats;
+    begun = begun;
+    finished = record {
+      each = finished_still now.run r u.acts place there.own acts there.own_at made_there u.done u.entries silent u.finished.each;
+      whole = u.finished.whole;
+      serial = u.finished.serial;
+      items = u.finished.items;
+      finish = u.finished.finish;
+      commits = u.finished.commits;
+    };
+  }
+
+  pub tame_under_way : ClientStep script.blocks before.client acts seat.client → Grows before.client acts seat.client → IsUnderWay session opening (with_seat place r seat now) running
+  tame_under_way moves g =
+      let draws = subst (λ n. Draws (desk_run now.run) (map (shown_tx n) (txs_begun acts)) (desk_run r)) is_there.number (g.desk now.run r m.made m.run) in
+      let new = map (begun_at place) (txs_begun acts) in
+      assembled running (u.waiting ++ new)
+      (seats_moved (u.waiting ++ new) moves g.number (g.txs ∙ ap (λ txs. txs ++ txs_begun acts) is_there.txs ∙ sym (txs_more place u.waiting (txs_begun acts))) (λ at out. txs_still place at u.waiting (txs_begun acts) out))
+      (begun_grows now.run r u.acts place there.own acts there.own_at made_there running u.done u.waiting u.begun g.tame g.fresh draws)
+      (none_silent acts u.done (λ n. tame_silent n acts g.tame))
+
+-- ---- a transaction starts
+others_started : (place : ℕ) (b : BegunAt) (rest : List BegunAt) → b.place ≡ place → (at : ℕ) → at ≢ place → txs_at at (as_started b ∷ rest) ≡ txs_at at (b ∷ rest)
+others_started place b rest here at out =
+    let no : (b.place == at) ≡ false = unequal b.place at (λ e. out (sym e ∙ here)) in
+    ap (λ t. if t then record b.tx { started = true } ∷ txs_at at rest else txs_at at rest) no ∙ sym (ap (λ t. if t then b.tx ∷ txs_at at rest else txs_at at rest) no)
+
+pub others_left : (place : ℕ) (b : BegunAt) (rest : List BegunAt) → b.place ≡ place → (at : ℕ) → at ≢ place → txs_at at rest ≡ txs_at at (b ∷ rest)
+others_left place b rest here at out = sym (ap (λ t. if t then b.tx ∷ txs_at at rest else txs_at at rest) (unequal b.place at (λ e. out (sym e ∙ here))))
+
+pub own_here : (place : ℕ) (b : BegunAt) (rest : List BegunAt) → b.place ≡ place → txs_at place (b ∷ rest) ≡ b.tx ∷ txs_at place rest
+own_here place b rest here = ap (λ t. if t then b.tx ∷ txs_at place rest else txs_at place rest) (ap (λ n. n == place) here ∙ equal_self place)
+
+module _ (session : ScriptSession) (opening : Items) (now : SessionNow) (place : ℕ) (script : Client) (before seat : SeatNow) (r : DeskRun) (told : Told) (tx : ClientTx) (idle : before.client.tasks ≡ []) where
+  -- of the first that waits
+  start_first : (u : IsUnderWay session opening now None) (b : BegunAt) (rest : List BegunAt) → u.waiting ≡ b ∷ rest → tx.started ≡ false → may_begin tx.body ≡ true
+      → Moves session now place script before (Makes (step.Starts before.client.number b.tx.number) told ∷ []) r seat → tx_at before.client b.tx.number ≡ Some tx → seat.client ≡ with_started before.client b.tx.number
+      → IsUnderWay session opening (with_seat place r seat now) (Some (record { number = b.tx.number; body = tx.body; turns = [] }))
+  start_first u b rest are waits begins m found is =
+      let acts = Makes (step.Starts before.client.number b.tx.number) told ∷ [] in
+      let at = there session opening now None place script before seat acts r u m in
+      let here = is_there session opening now None place script before seat acts r u m in
+      let made = made_there session opening now None place script before seat acts r u m in
+      let begun = subst (HasBegun now.run u.acts None u.done) are u.begun in
+      let apart = first_apart (desk_run now.run).board.scopes.next u.done b rest begun.numbers in
+      let own : before.client.txs ≡ txs_at place (b ∷ rest) = here.txs ∙ ap (txs_at place) are in
+      let first = found_first place b rest tx apart.1 (ap (find (is_tx b.tx.number)) (sym own) ∙ found) in
+      let moves = subst (ClientStep script.blocks before.client acts) (sym is) (StartsTx tx b.tx.number told idle found waits begins) in
+      assembled session opening now None place script before seat acts r u m (Some (record { number = b.tx.number; body = tx.body; turns = [] })) (as_started b ∷ rest)
+      (seats_moved session opening now None place script before seat acts r u m (as_started b ∷ rest) moves (ap (λ (c : ClientState). c.number) is)
+      (ap (λ (c : ClientState). c.txs) is ∙ ap (map (started_if b.tx.number)) (own ∙ own_here place b rest first.0)
+      ∙ ap (λ t. (if t then record b.tx { started = true } else b.tx) ∷ map (started_if b.tx.number) (txs_at place rest)) (equal_self b.tx.number)
+      ∙ ap (λ txs. record b.tx { started = true } ∷ txs) (started_apart place b.tx.number rest apart.1)
+      ∙ sym (own_here place (as_started b) rest first.0))
+      (λ other out. others_started place b rest first.0 other out ∙ ap (txs_at other) (sym are)))
+      (subst (λ body. HasBegun r (slice_set u.acts place (at.own ++ acts)) (Some (record { number = b.tx.number; body = body; turns = [] })) u.done (as_started b ∷ rest)) (ap (λ (x : ClientTx). x.body) first.1)
+      (begun_starts now.run r u.acts place before.client.number at.own told u.done rest b at.own_at made m.run begun first.0))
+      (apart_silent acts b.tx.number u.done (start_others now.run r u.acts place before.client.number at.own told u.done rest b at.own_at made m.run begun first.0) apart.0)
+
+  abbrev StartsInto : ℕ → Type 0
+  StartsInto number = Moves session now place script before (Makes (step.Starts before.client.number number) told ∷ []) r seat → tx_at before.client number ≡ Some tx → seat.client ≡ with_started before.client number
+      → IsUnderWay session opening (with_seat place r seat now) (Some (record { number = number; body = tx.body; turns = [] }))
+
+  pub start_under_way : ((q : DeskRun) → IsDeskRun q → IsSound (desk_run q)) → (number : ℕ) → IsUnderWay session opening now None → least_of (desk_run now.run) ≡ Some number → tx.started ≡ false → may_begin tx.body ≡ true → StartsInto number
+  start_under_way sound number u least waits begins =
+      let f = waits_first sound now.run number u.waiting u.desk least u.begun.unfinished in
+      subst StartsInto f.1.1.1 (start_first u f.0 f.1.0 f.1.1.0 waits begins)
+
+-- ---- a transaction has a turn
+module _ (session : ScriptSession) (opening : Items) (now : SessionNow) (place : ℕ) (script : Client) (before seat : SeatNow) (r : DeskRun) (t : RunningTx) (notes : List Note) (tx : ClientTx) (idle : before.client.tasks ≡ []) where
+  turn_first : (u : IsUnderWay session opening now (Some t)) (b : BegunAt) (rest : List BegunAt) → u.waiting ≡ b ∷ rest → tx.started ≡ true
+      → Moves session now place script before (TakesTurn b.tx.number notes ∷ []) r seat → tx_at before.client b.tx.number ≡ Some tx → seat.client ≡ with_notes before.client notes
+      → IsUnderWay session opening (with_seat place r seat now) (Some (record t { turns = t.turns ++ notes ∷ [] }))
+  turn_first u b rest are runs m found is =
+      let acts = TakesTurn b.tx.number notes ∷ [] in
+      let at = there session opening now (Some t) place script before seat acts r u m in
+      let here = is_there session opening now (Some t) place script before seat acts r u m in
+      let made = made_there session opening now (Some t) place script before seat acts r u m in
+      let begun = subst (HasBegun now.run u.acts (Some t) u.done) are u.begun in
+      let apart = first_apart (desk_run now.run).board.scopes.next u.done b rest begun.numbers in
+      let own : before.client.txs ≡ txs_at place (b ∷ rest) = here.txs ∙ ap (txs_at place) are in
+      let first = found_first place b rest tx apart.1 (ap (find (is_tx b.tx.number)) (sym own) ∙ found) in
+      let moves = subst (ClientStep script.blocks before.client acts) (sym is) (RunsTurn tx b.tx.number notes idle found runs) in
+      let same = notes_txs notes before.client in
+      assembled session opening now (Some t) place script before seat acts r u m (Some (record t { turns = t.turns ++ notes ∷ [] })) (b ∷ rest)
+      (seats_moved session opening now (Some t) place script before seat acts r u m (b ∷ rest) moves (ap (λ (c : ClientState). c.number) is ∙ same.1)
+      (ap (λ (c : ClientState). c.txs) is ∙ same.0 ∙ own) (λ other out. ap (txs_at other) (sym are)))
+      (begun_turns now.run r u.acts place at.own t notes u.done rest b at.own_at made begun first.0)
+      (apart_silent acts b.tx.number u.done (turn_others now.run r u.acts place at.own t notes u.done rest b at.own_at made begun first.0) apart.0)
+
+  abbrev TurnsInto : ℕ → Type 0
+  TurnsInto number = Moves session now place script before (TakesTurn number notes ∷ []) r seat → tx_at before.client number ≡ Some tx → seat.client ≡ with_notes before.client notes
+      → IsUnderWay session opening (with_seat place r seat now) (Some (record t { turns = t.turns ++ notes ∷ [] }))
+
+  pub turn_under_way : IsUnderWay session opening now (Some t) → tx.started ≡ true → TurnsInto t.number
+  turn_under_way u runs =
+      let f = runs_first t u.waiting u.begun.first in
+      subst TurnsInto f.1.1.1 (turn_first u f.0 f.1.0 f.1.1.0 runs)

@@ -1,0 +1,4 @@
+pub mod Sessions
+pub mod Telling
+pub mod UnderWay
+pub mod Moves
