@@ -1,0 +1,6 @@
+mod Asking
+mod Unchanged
+mod Keys
+mod TurnLemmas
+mod Calls
+mod Named

@@ -1,0 +1,8 @@
+use Rattle.session_databases.proofs.Parts.{rejoined, applied_part}
+use Rattle.session_databases.proofs.laws_of_parts.part_laws.Goals as goal
+
+pub returns-clause-whole : goal.returns-clause-whole
+returns-clause-whole c = rejoined
+
+pub returns-clause-changed : goal.returns-clause-changed
+returns-clause-changed c = applied_part
