@@ -1,0 +1,19 @@
+mod Conns
+mod Moves
+mod Changes
+mod Ends
+mod Sums
+mod States
+mod Calls
+mod Asks
+mod Boards
+mod Asking
+mod Orderly
+mod Leaving
+mod Stepping
+mod Databases
+mod Facts
+mod Staying
+mod Alone
+mod Runs
+pub mod Laws
