@@ -15,6 +15,3 @@ mod turns;
 pub use replies::Reply;
 pub use requests::run_request;
 pub use turns::run_turn;
-
-#[cfg(test)]
-mod tests;
