@@ -1,5 +1,5 @@
 -- What a transaction holds until it starts.
---     kind_seen, body_seen  whose it is, and what it begins with, as plain data
+--     kind_seen, body_seen, begun_seen      whose it is, and what it begins with, where that is known, as plain data
 --     parts_seen            what a begun transaction of these parts shows
 --     HoldsBody             it holds its body until it starts
 use Rattle.std.specs.Prelude.{◌≡◌, Bool, true, false, Option, Some, None, option_map}
