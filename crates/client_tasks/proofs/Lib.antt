@@ -1,0 +1,4 @@
+pub mod Carried
+pub mod Staying
+pub mod Strays
+pub mod Stepping

@@ -1,0 +1,4 @@
+pub mod Codes
+pub mod Between
+pub mod Steps
+pub mod Meeting
