@@ -1,0 +1,7 @@
+pub mod Definitions
+pub mod Sifting
+pub mod Openings
+pub mod Versions
+pub mod Stepping
+pub mod Finishing
+pub mod Unstarted

@@ -1,0 +1,71 @@
+-- What a running transaction keeps.
+--     lines_of_turn, turns_seen     the lines that were added to the notes in a turn;  in each
+--     version_there, version_after     the version of a database, if it is there;  and once an upgrade to this version has begun
+--     begun_state, state_now        the state of the list machine as its body left it;  and now
+--     GoesSo                its turns so far lead from the one to the other
+--     StandsAfter                so it is while it goes on, and it is at its end
+--     IsRunning             all of it
+use Rattle.std.specs.Prelude.{◌≡◌, ℕ, Bool, true, false, List, [], drop, length, map, Option, Some, None, option_map}
+use Rattle.idb_calls.specs.declared.traces.Outcome.{Outcome}
+use Rattle.idb_calls.specs.declared.traces.Outcome.TheVariants.{Committed, Aborted}
+use Rattle.idb_keys.specs.declared.names.Mode.{Mode}
+use Rattle.idb_keys.specs.declared.names.Mode.TheVariants as mode
+use Rattle.item_changes.specs.Items.{Name, Database}
+use Rattle.request_lists.specs.Fronts.{new_front}
+use Rattle.request_lists.specs.Placing.{Becomes}
+use Rattle.list_machine.specs.declared.steps.Step.TheVariants as step
+use Rattle.list_machine.specs.States.{State, fresh_state}
+use Rattle.list_machine.specs.Machine.{Turn}
+use Rattle.list_machine.specs.Seeing.{state_map}
+use Rattle.serial_order.specs.FinishEntries.{ScriptedBody, front_left}
+use Rattle.serial_order.specs.SerialRuns.{GoesBy, AbortsItself}
+use Rattle.serial_order.specs.NumberOrder.{FitsWhole}
+use Rattle.script_runs.specs.declared.notes.Note.{Note}
+use Rattle.script_handlers.specs.declared.handlers.ScriptHandler.{ScriptHandler}
+use Rattle.script_handlers.specs.Handling.{Script, ScriptReacts, ScriptWrites}
+use Rattle.script_handlers.specs.Seeing.{script_seen}
+use Rattle.session_txs.specs.declared.turns.TurnNotes.{TurnNotes}
+
+abbrev pub lines_of_turn : TurnNotes → List Note
+lines_of_turn t = drop (length t.before.value) t.after.value
+
+abbrev pub turns_seen : List TurnNotes → List (List Note)
+turns_seen ts = map lines_of_turn ts
+
+abbrev pub version_there : Option Database → Option ℕ
+version_there there = option_map (λ d. d.version) there
+
+abbrev pub version_after : Mode → ℕ → Option ℕ → Option ℕ
+version_after mode.ReadOnly version before = before
+version_after mode.ReadWrite version before = before
+version_after mode.VersionChange version before = Some version
+
+abbrev pub begun_state : ScriptedBody Script → Option Database → State Script
+begun_state body part = fresh_state (front_left body) body.schema part
+
+abbrev pub state_now : State ScriptHandler → State Script
+state_now state = state_map script_seen state
+
+abbrev pub GoesSo : ScriptedBody Script → State ScriptHandler → List (List Note) → Type 0
+GoesSo body state turns = GoesBy ScriptReacts ScriptWrites (begun_state body state.before) (state_now state) turns
+
+-- no entry is left
+pub record HasRunOut (body : ScriptedBody Script) (state : State ScriptHandler) (turns : List (List Note)) : Type 0 where
+  pub goes : GoesSo body state turns
+  pub idle : Turn ScriptReacts ScriptWrites (state_now state) step.Idle (state_now state) []
+
+-- after want of memory nothing is known
+abbrev pub StandsAfter : ScriptedBody Script → State ScriptHandler → List (List Note) → Bool → Option Outcome → Type 0
+StandsAfter body state turns is_stuck None = is_stuck ≡ false → GoesSo body state turns
+StandsAfter body state turns is_stuck (Some Committed) = HasRunOut body state turns
+StandsAfter body state turns is_stuck (Some (Aborted error true)) = ⊥
+StandsAfter body state turns is_stuck (Some (Aborted error false)) = AbortsItself ScriptReacts ScriptWrites (begun_state body state.before) error turns [] × (state.database ≡ state.before)
+
+-- with the version of its database before it, and the one at which it leaves it
+pub record IsRunning (body : ScriptedBody Script) (name : Name) (before after : Option ℕ) (state : State ScriptHandler) (turns : List (List Note)) (is_stuck : Bool) (end : Option Outcome) : Type 0 where
+  pub placed : Becomes (new_front body.mode body.schema body.names) body.front
+  pub fits : FitsWhole state.before body
+  pub name_is : name ≡ body.schema.name
+  pub before_is : before ≡ version_there state.before
+  pub after_is : after ≡ version_after body.mode body.schema.version (version_there state.before)
+  pub came : StandsAfter body state turns is_stuck end

@@ -1,0 +1,4 @@
+pub mod Running
+pub mod Codes
+pub mod Keeping
+pub mod Fitting

@@ -1,0 +1,150 @@
+// A transaction of a session begins.
+ghost use Rattle.std.specs.Prelude.{◌≡◌, [], None, OnOk, IfOk, IfSome, IfNone, IsErrOf};
+ghost use Rattle.std.specs.FinMap as finite;
+ghost use Rattle.item_changes.specs.Scopes.{part_of};
+ghost use Rattle.request_lists.specs.Fronts.{new_front};
+ghost use Rattle.request_lists.specs.Placing.{Becomes};
+ghost use Rattle.serial_order.specs.NumberOrder.{FitsWhole};
+ghost use Rattle.live_stores.specs.Live.{database_at};
+ghost use Rattle.session_databases.specs.Parts.{without_part};
+ghost use Rattle.client_parts.specs.Begun.{scripted_body};
+ghost use Rattle.session_txs.specs.Running.{scope_of_scripted, begun_tx};
+ghost use Rattle.session_txs.specs.Fitting.{IsMadeBy};
+ghost use Rattle.session_txs.specs.Keeping.{version_after};
+
+use crate::fitting::fitting;
+use crate::fronts::left_front;
+use crate::session_tx::SessionTx;
+use client_parts::{BegunParts, BegunTx};
+use idb_base::NoMemory;
+use idb_keys::Mode;
+use index_tables::Tables;
+use live_stores::{LiveStores, Stores};
+use live_tx::{LiveTx, live_laws};
+use script_handlers::ScriptHandler;
+use session_databases::SessionDatabases;
+use std::alloc::Global;
+use std::snapshot::Snapshot;
+use tx_courses::{Course, opening_changes};
+
+/// Why a transaction did not begin.
+#[derive(Clone, Copy, Debug, PartialEq, Eq)]
+pub enum BeginError {
+    /// The databases are not as the schema says with which it was made.
+    Unfit,
+    /// Memory ran out.
+    NoMemory,
+}
+
+/// A transaction whose body has run begins: the part of the databases that its scope names is taken out of them. No store is copied.
+/// After an error nothing is said of the databases.
+pub fn begin<T: Tables>(
+    alloc: Global,
+    databases: &mut SessionDatabases<T>,
+    number: u64,
+    begun: BegunTx,
+) -> Result<SessionTx<T>, BeginError>
+    ensures begins { IfOk result (λ tx. tx ≡ begun_tx number begun.body databases.old) }
+    ensures left { OnOk result
+        (databases.new ≡ without_part (scope_of_scripted begun.body) databases.old) }
+    ensures fits { OnOk result
+        (FitsWhole (part_of (scope_of_scripted begun.body) databases.old) begun.body) }
+    ensures unfit { IsErrOf result BeginError.Unfit
+        → FitsWhole (part_of (scope_of_scripted begun.body) databases.old) begun.body → ⊥ }
+{
+    match begin_fitting(alloc, databases, number, begun) {
+        Ok(Some(tx)) => return Ok(tx),
+        Ok(None) => return Err(BeginError::Unfit),
+        Err(_) => return Err(BeginError::NoMemory),
+    }
+}
+
+/// The same; `None` where the databases are not as the schema says.
+fn begin_fitting<T: Tables>(
+    alloc: Global,
+    databases: &mut SessionDatabases<T>,
+    number: u64,
+    begun: BegunTx,
+) -> Result<Option<SessionTx<T>>, NoMemory>
+    ensures begins { IfOk result (λ o. IfSome o (λ tx. tx ≡ begun_tx number begun.body databases.old)) }
+    ensures left { OnOk result
+        (databases.new ≡ without_part (scope_of_scripted begun.body) databases.old) }
+    ensures fits { IfOk result (λ o. IfSome o (λ tx.
+        FitsWhole (part_of (scope_of_scripted begun.body) databases.old) begun.body)) }
+    ensures unfit { IfOk result (λ o. IfNone o
+        (FitsWhole (part_of (scope_of_scripted begun.body) databases.old) begun.body → ⊥)) }
+{
+    let parts = begun.into_parts();
+    let (version, stores) = databases.take(parts.mode, parts.schema.name(), &parts.names)?;
+    match fitting(alloc, parts.mode, &parts.schema, version, stores)? {
+        Some(stores) => {
+            let tx = running(alloc, number, parts, version, stores)?;
+            return Ok(Some(tx));
+        }
+        None => return Ok(None),
+    }
+}
+
+/// The transaction on its part of the databases.
+fn running<T: Tables>(
+    alloc: Global,
+    number: u64,
+    parts: BegunParts,
+    version: Option<u64>,
+    stores: Stores<T>,
+) -> Result<SessionTx<T>, NoMemory>
+    requires placed { Becomes (new_front parts.mode parts.schema parts.names) parts.front }
+    requires none { version ≡ None → stores ≡ finite.empty }
+    requires fits { IsMadeBy parts.mode parts.schema (database_at version stores) }
+    ensures { IfOk result (λ tx. tx ≡ record {
+      number = number;
+      body = scripted_body parts.mode parts.schema parts.names parts.front parts.threw;
+      part = database_at version stores;
+      turns = [];
+      end = None;
+    }) }
+{
+    let name = parts.schema.name().copy(alloc)?;
+    let changes = opening_changes(alloc, parts.mode, &parts.schema)?;
+    live_laws::<ScriptHandler>();
+    let BegunParts {
+        mode,
+        durability,
+        schema,
+        names,
+        front,
+        threw,
+    } = parts;
+    let front_before = Snapshot::of(&front);
+    let schema_before = Snapshot::of(&schema);
+    let after = version_after(mode, schema.version(), version);
+    let front = left_front(front, threw);
+    let stores = LiveStores::new(alloc, version, stores);
+    let course = Course::new(alloc, mode, schema, stores, changes);
+    let live = LiveTx::new(alloc, number, durability, front, course);
+    Ok(SessionTx {
+        mode,
+        name,
+        names,
+        threw,
+        schema: schema_before,
+        front: front_before,
+        before: version,
+        after,
+        live,
+        turns: Vec::new(alloc),
+        is_stuck: false,
+        end: None,
+    })
+}
+
+/// The version of the database once an upgrade to this version has begun; others leave it.
+fn version_after(mode: Mode, version: u64, before: Option<u64>) -> Option<u64>
+    ensures { result ≡ version_after mode version before }
+{
+    match mode {
+        Mode::ReadOnly => before,
+        Mode::ReadWrite => before,
+        Mode::VersionChange => Some(version),
+    }
+}
