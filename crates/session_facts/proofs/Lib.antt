@@ -1,0 +1,15 @@
+mod Steady
+mod Names
+mod Desk
+mod Drawing
+mod Carrying
+mod Becoming
+mod Upgrading
+mod Seats
+mod Allowing
+mod Keeping
+mod Telling
+mod Holding
+mod Lasting
+mod Starting
+mod Shown
