@@ -1,0 +1,34 @@
+-- A client is served.
+--     task_or_still, event_or_still     whether or not it had one, the session goes on
+--     served_behind         an event is taken where there was no task
+use Rattle.std.proofs.Common.{◌≡◌, Bool, true, false, not, ◌&&◌, List, is_some, refl, sym, ◌∙◌, ap, subst}
+use Rattle.idb_desk.specs.Refusals.{has_some}
+use Rattle.idb_desk.specs.Steps.{DeskRun, desk_run, IsDeskRun, event_for}
+use Rattle.script_runs.specs.declared.notes.Note.{Note}
+use Rattle.task_statements.specs.Offices.{OfficeState}
+use Rattle.client_tasks.specs.Steps.{Whether, StaysAsIs, RunsTaskInto, TakesEventInto}
+use Rattle.session_driver.specs.Scenes.{KeepsOn}
+use Rattle.session_driver.specs.Serving.{ServedInto}
+use Rattle.session_driver.proofs.Leading.{OthersLaw, TaskLaw, EventLaw, task_keeps, event_keeps}
+use Rattle.session_driver.proofs.Turning.{keeps_still}
+
+pub task_or_still : OthersLaw → TaskLaw → (old new : OfficeState) (before after : List Note) (ran : Bool) → Whether ran (RunsTaskInto old before new after) (StaysAsIs old before new after) → IsDeskRun new.run → KeepsOn old before new after
+task_or_still others law old new before after true t run = task_keeps others law old new before after t run
+task_or_still others law old new before after false s run = keeps_still old new before after s.office s.notes
+
+pub event_or_still : OthersLaw → EventLaw → (old new : OfficeState) (before after : List Note) (took : Bool) → Whether took (TakesEventInto old before new after) (StaysAsIs old before new after) → IsDeskRun new.run → KeepsOn old before new after
+event_or_still others law old new before after true t run = event_keeps others law old new before after t run
+event_or_still others law old new before after false s run = keeps_still old new before after s.office s.notes
+
+pub served_behind : (old mid new : OfficeState) (before between after : List Note) (ran took : Bool) → ran ≡ false → ran ≡ has_some old.client.tasks → Whether ran (RunsTaskInto old before mid between) (StaysAsIs old before mid between)
+    → took ≡ (not (has_some mid.client.tasks) && is_some (event_for (desk_run mid.run) mid.client.number)) → Whether took (TakesEventInto mid between new after) (StaysAsIs mid between new after) → ServedInto old before new after
+served_behind old mid new before between after ran took none one stays took_is met =
+    let idle : has_some old.client.tasks ≡ false = sym one ∙ none in
+    let s : StaysAsIs old before mid between = subst (λ b. Whether b (RunsTaskInto old before mid between) (StaysAsIs old before mid between)) none stays in
+    let took_so : took ≡ (not (has_some old.client.tasks) && is_some (event_for (desk_run old.run) old.client.number)) = took_is ∙ ap (λ (o : OfficeState). not (has_some o.client.tasks) && is_some (event_for (desk_run o.run) o.client.number)) s.office in
+    let there : took ≡ is_some (event_for (desk_run old.run) old.client.number) = took_so ∙ ap (λ b. not b && is_some (event_for (desk_run old.run) old.client.number)) idle in
+    let met_so : Whether took (TakesEventInto old before new after) (StaysAsIs old before new after) =
+    subst (λ (ns : List Note). Whether took (TakesEventInto old ns new after) (StaysAsIs old ns new after)) s.notes
+    (subst (λ (o : OfficeState). Whether took (TakesEventInto o between new after) (StaysAsIs o between new after)) s.office met) in
+    subst (λ b. Whether b (RunsTaskInto old before new after) (Whether (is_some (event_for (desk_run old.run) old.client.number)) (TakesEventInto old before new after) (StaysAsIs old before new after))) (sym idle)
+    (subst (λ b. Whether b (TakesEventInto old before new after) (StaysAsIs old before new after)) there met_so)

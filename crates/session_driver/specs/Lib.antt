@@ -1,0 +1,6 @@
+pub mod Scenes
+pub mod Seats
+pub mod Choosing
+pub mod Serving
+pub mod Running
+pub mod Reporting

@@ -1,0 +1,55 @@
+-- A transaction is run to its end.
+--     begun_run, one_turn_more      a transaction that runs, before its first turn;  with one turn more
+--     run_seen              as the transaction that is run shows it
+--     left_items            what a transaction with this outcome and these changes leaves
+--     TurnLeads, EndLeads   what a turn leads to, whose handlers wrote these last of the notes;  and what its finish leads to
+--     RunsOnInto            it ran on, and its client with it
+--     HasSureEnd            it came to its end, and isn't in doubt
+use Rattle.std.specs.Prelude.{◌≡◌, ℕ, false, ◌&&◌, List, [], ◌∷◌, ◌++◌, Option, Some, None, if◌then◌else◌}
+use Rattle.idb_schema.specs.Schemas.{SchemaData}
+use Rattle.idb_calls.specs.Deltas.{DeltaTree}
+use Rattle.idb_calls.specs.declared.traces.Outcome.{Outcome}
+use Rattle.item_changes.specs.Items.{Items}
+use Rattle.item_changes.specs.Effects.{applied_all}
+use Rattle.item_changes.specs.Scopes.{part_of}
+use Rattle.serial_order.specs.FinishEntries.{TxBody, Scripted, scope_of_body, did_commit}
+use Rattle.serial_order.specs.SerialRuns.{RunsOn}
+use Rattle.script_runs.specs.declared.notes.Note.{Note}
+use Rattle.script_handlers.specs.Handling.{Script, ScriptReacts, ScriptWrites}
+use Rattle.legal_sessions.specs.Legal.{is_in_doubt, may_write}
+use Rattle.session_states.specs.Telling.{RunningTx}
+use Rattle.task_statements.specs.Offices.{OfficeState}
+use Rattle.session_txs.specs.Running.{SessionTxState}
+use Rattle.session_driver.specs.declared.finished.Finished.{Finished}
+use Rattle.session_driver.specs.Scenes.{scene_of, LeadsTo, with_finish_of}
+
+abbrev pub begun_run : ℕ → TxBody Script → RunningTx
+begun_run number body = record { number = number; body = body; turns = [] }
+
+abbrev pub one_turn_more : RunningTx → List Note → RunningTx
+one_turn_more t lines = record t { turns = t.turns ++ lines ∷ [] }
+
+abbrev pub run_seen : SessionTxState → RunningTx
+run_seen tx = record { number = tx.number; body = Scripted tx.body; turns = tx.turns }
+
+abbrev pub left_items : Items → Outcome → List DeltaTree → Items
+left_items items outcome changes = applied_all items (if did_commit outcome then changes else [])
+
+pub record TurnLeads (number : ℕ) (old : OfficeState) (lines : List Note) (new : OfficeState) : Type 0 where
+  pub goes : (t : RunningTx) (before : List Note) (done : Finished) (items : Items) → t.number ≡ number → LeadsTo (Some t) (Some (one_turn_more t lines)) (scene_of old before done items) (scene_of new (before ++ lines) done items)
+
+pub record EndLeads (number : ℕ) (outcome : Outcome) (kept : Option SchemaData) (old : OfficeState) (before : List Note) (new : OfficeState) (after : List Note) : Type 0 where
+  pub goes : (t : RunningTx) (changes : List DeltaTree) (done : Finished) (items : Items) → t.number ≡ number
+      → RunsOn ScriptReacts ScriptWrites (part_of (scope_of_body t.body) items) t.body t.turns changes kept false outcome → is_in_doubt outcome ≡ false
+      → LeadsTo (Some t) None (scene_of old before done items) (scene_of new after (with_finish_of done number (did_commit outcome && may_write t.body)) (left_items items outcome changes))
+
+pub record RunsOnInto (old : OfficeState) (before : List Note) (tx : SessionTxState) (new : OfficeState) (after : List Note) (last : SessionTxState) : Type 0 where
+  pub number : last.number ≡ tx.number
+  pub body : last.body ≡ tx.body
+  pub part : last.part ≡ tx.part
+  pub goes : (done : Finished) (items : Items) → LeadsTo (Some (run_seen tx)) (Some (run_seen last)) (scene_of old before done items) (scene_of new after done items)
+
+pub record HasSureEnd (tx : SessionTxState) : Type 0 where
+  pub outcome : Outcome
+  pub end : tx.end ≡ Some outcome
+  pub sure : is_in_doubt outcome ≡ false

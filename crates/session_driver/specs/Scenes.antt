@@ -1,0 +1,67 @@
+-- What the steps of one client can change of a session, and what they lead to.
+--     Scene                 the client in its office, what it noted, the numbers of the transactions that finished and of those
+--                           that committed and may write, and the databases
+--     scene_of, seat_on     a scene;  the client's seat in it
+--     IsSceneAt             what is held of the session is so at this place
+--     with_scene            and is so then
+--     LeadsTo               where it was so, and the session under way, it is under way behind
+--     KeepsOn               steps of a client that leave what runs as it is
+--     commit_numbers        the numbers of those that committed, with one more where it did
+--     with_finish_of        those that finished, with one more
+use Rattle.std.specs.Prelude.{◌≡◌, ◌≢◌, ℕ, Bool, List, [], ◌∷◌, ◌++◌, slice_get, slice_set, if◌then◌else◌, Option, Some, None}
+use Rattle.idb_desk.specs.Steps.{DeskRun}
+use Rattle.item_changes.specs.Items.{Items}
+use Rattle.script_statements.specs.declared.script.Client.{Client}
+use Rattle.script_statements.specs.declared.script.ScriptSession.{ScriptSession}
+use Rattle.script_runs.specs.declared.notes.Note.{Note}
+use Rattle.client_machine.specs.ClientStates.{ClientState}
+use Rattle.client_seats.specs.Seating.{IsSeated}
+use Rattle.session_states.specs.Sessions.{SeatNow, SessionNow}
+use Rattle.session_states.specs.Telling.{RunningTx}
+use Rattle.session_states.specs.UnderWay.{IsUnderWay}
+use Rattle.task_statements.specs.Offices.{OfficeState}
+use Rattle.session_driver.specs.declared.finished.Finished.{Finished}
+
+pub record Scene : Type 0 where
+  pub office : OfficeState
+  pub notes : List Note
+  pub finish : List ℕ
+  pub commits : List ℕ
+  pub items : Items
+
+abbrev pub scene_of : OfficeState → List Note → Finished → Items → Scene
+scene_of office notes done items = record { office = office; notes = notes; finish = done.finish; commits = done.commits; items = items }
+
+abbrev pub seat_on : Scene → SeatNow
+seat_on s = record { client = s.office.client; notes = s.notes }
+
+-- places are counted from 0
+pub record IsSceneAt (session : ScriptSession) (now : SessionNow) (place : ℕ) (s : Scene) : Type 0 where
+  pub script : Client
+  pub script_at : slice_get session.clients place ≡ Some script
+  pub blocks : s.office.blocks ≡ script.blocks
+  pub seat_at : slice_get now.seats place ≡ Some (seat_on s)
+  pub run : now.run ≡ s.office.run
+  pub finish : now.finish ≡ s.finish
+  pub commits : now.commits ≡ s.commits
+  pub items : now.items ≡ s.items
+
+abbrev pub with_scene : ℕ → Scene → SessionNow → SessionNow
+with_scene place s now = record { run = s.office.run; seats = slice_set now.seats place (seat_on s); finish = s.finish; commits = s.commits; items = s.items }
+
+-- what runs before, and behind; each other client that sat at the desk sits there still
+pub record LeadsTo (running next : Option RunningTx) (s last : Scene) : Type 0 where
+  pub blocks : last.office.blocks ≡ s.office.blocks
+  pub number : last.office.client.number ≡ s.office.client.number
+  pub others : (c : ClientState) → c.number ≢ s.office.client.number → IsSeated c s.office.run → IsSeated c last.office.run
+  pub leads : (session : ScriptSession) (opening : Items) (now : SessionNow) (place : ℕ) → IsSceneAt session now place s → IsUnderWay session opening now running → IsUnderWay session opening (with_scene place last now) next
+
+pub record KeepsOn (old : OfficeState) (before : List Note) (new : OfficeState) (after : List Note) : Type 0 where
+  pub goes : (running : Option RunningTx) (done : Finished) (items : Items) → LeadsTo running running (scene_of old before done items) (scene_of new after done items)
+
+-- ---- the numbers of those that finished
+abbrev pub commit_numbers : List ℕ → ℕ → Bool → List ℕ
+commit_numbers commits number commits_too = if commits_too then commits ++ number ∷ [] else commits
+
+abbrev pub with_finish_of : Finished → ℕ → Bool → Finished
+with_finish_of done number commits_too = record { finish = done.finish ++ number ∷ []; commits = commit_numbers done.commits number commits_too }
