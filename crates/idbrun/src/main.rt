@@ -52,8 +52,8 @@ fn main(rt: HostRuntime) -> ExitCode {
         (),
         &OpenGate,
     );
-    if let Some(line) = status.line() {
-        let _ = rt.eprintln(line);
+    if !status.is_done() {
+        let _ = eprintln!(rt; "{status}");
     }
     ExitCode::from(status.number())
 }

@@ -1,31 +1,40 @@
 -- What a status says: whether something was written, the number that the program ends with, and its line.
-use Rattle.std.specs.Prelude.{ℕ, List, Option, Some, None, codes, ⊤}
+--     IsUnwritten           nothing was written
+--     number_of             the number
+--     line_of               the line on standard error; where the report is written there is none
+use Rattle.std.specs.Prelude.{ℕ, List, [], ◌++◌, codes, decimal, ⊤}
 use Rattle.script_runner.specs.declared.status.Status.{Status}
-use Rattle.script_runner.specs.declared.status.Status.TheVariants.{Done, Usage, ReadFault, WriteFault, NoMemory, NotBuilt}
+use Rattle.script_runner.specs.declared.status.Status.TheVariants.{Done, Usage, TooLong, BadScript, ReadFault, WriteFault, NoMemory, NotBuilt, Stuck}
 
--- nothing was written
 abbrev pub IsUnwritten : Status → Type 0
 IsUnwritten Done = ⊥
 IsUnwritten (Usage text) = ⊤
+IsUnwritten TooLong = ⊤
+IsUnwritten (BadScript place) = ⊤
 IsUnwritten ReadFault = ⊤
 IsUnwritten WriteFault = ⊥
 IsUnwritten NoMemory = ⊤
 IsUnwritten NotBuilt = ⊤
+IsUnwritten Stuck = ⊤
 
--- the number that the program ends with
 abbrev pub number_of : Status → ℕ
 number_of Done = 0
 number_of (Usage text) = 2
+number_of TooLong = 3
+number_of (BadScript place) = 4
 number_of ReadFault = 5
 number_of WriteFault = 6
 number_of NoMemory = 9
 number_of NotBuilt = 11
+number_of Stuck = 15
 
--- the line on standard error, where there is one
-abbrev pub line_of : Status → Option (List ℕ)
-line_of Done = None
-line_of (Usage text) = Some text
-line_of ReadFault = Some (codes "idbrun: read fault")
-line_of WriteFault = Some (codes "idbrun: write fault")
-line_of NoMemory = Some (codes "idbrun: no memory")
-line_of NotBuilt = Some (codes "idbrun: not built")
+abbrev pub line_of : Status → List ℕ
+line_of Done = []
+line_of (Usage text) = text
+line_of TooLong = codes "idbrun: script too long"
+line_of (BadScript place) = codes "idbrun: bad script at " ++ decimal place
+line_of ReadFault = codes "idbrun: read fault"
+line_of WriteFault = codes "idbrun: write fault"
+line_of NoMemory = codes "idbrun: no memory"
+line_of NotBuilt = codes "idbrun: not built"
+line_of Stuck = codes "idbrun: stuck"

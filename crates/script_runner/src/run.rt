@@ -1,16 +1,23 @@
 // The call of the whole program.
-ghost use Rattle.std.specs.Prelude.{◌≡◌, ◌≤◌, ◌⊎◌, ◌↔◌, ℕ, List, Some, IsTrue, length};
+ghost use Rattle.std.specs.Prelude.{◌≡◌, ◌≤◌, ◌⊎◌, ◌↔◌, ◌+◌, ℕ, List, Some, Ok, Err, IsTrue, length};
+ghost use Rattle.std.specs.FinMap as finite;
 ghost use Rattle.std.specs.Io.KnownBytes.{Appends};
 ghost use Rattle.edge_traits.specs.Faults.{Rose};
 ghost use Rattle.edge_traits.specs.Streams.{ConsumesAtMost, AppendsFront};
-ghost use Rattle.script_model.specs.FirstForm.{IsFirst};
-ghost use Rattle.script_model.specs.FirstResults.{report_of};
-ghost use Rattle.script_model.specs.declared.first.FirstStep.{FirstStep};
-ghost use Rattle.script_runner.specs.FirstCall.{IsRun, usage_text, ReadsFirst, ReadsOther};
+ghost use Rattle.item_changes.specs.Items.{Items};
+ghost use Rattle.report_lines.specs.ReportText.{text_of_report};
+ghost use Rattle.report_lines.specs.declared.reports.Report.{Report};
+ghost use Rattle.script_statements.specs.declared.script.Script.{Script};
+ghost use Rattle.script_statements.specs.declared.script.ScriptSession.{ScriptSession};
+ghost use Rattle.legal_sessions.specs.Legal.{IsLegalReport};
+ghost use Rattle.script_runner.specs.Commands.{IsRun, usage_text};
+ghost use Rattle.script_runner.specs.Inputs.{ReadsAs, ReadsTooMuch, one_session, IsOfOthers, due_of};
 ghost use Rattle.script_runner.specs.Statuses.{IsUnwritten};
+ghost use Rattle.script_runner.specs.declared.status.Status.TheVariants as status;
 
-use crate::reports::{NoReport, write_report};
-use crate::scripts::{NoScript, read_script};
+use crate::limits::MOST_SCRIPT_BYTES;
+use crate::reporting::{NoReport, write_report};
+use crate::scripts::{NoScript, read_session};
 use crate::{Ended, Status};
 use clone_values::Text;
 use edge_traits::{Gate, Sink, Source};
@@ -37,46 +44,12 @@ fn usage(alloc: Global) -> Status
     }
 }
 
-// The command `run`.
-fn run<S: Source, K: Sink, G: Gate>(alloc: Global, source: &mut S, sink: &mut K, gate: &G) -> Status
-    ensures done { result ≡ Status.Done
-        → (steps : List FirstStep) × ReadsFirst (S.left source.old) (S.left source.new) steps
-        × Appends (K.held sink.old) (K.held sink.new) (report_of steps) }
-    ensures write_fault { result ≡ Status.WriteFault
-        → (steps : List FirstStep) × ReadsFirst (S.left source.old) (S.left source.new) steps
-        × AppendsFront (K.held sink.old) (K.held sink.new) (report_of steps) }
-    ensures write_cause { result ≡ Status.WriteFault → Rose (K.faults sink.old) (K.faults sink.new) }
-    ensures read_cause { result ≡ Status.ReadFault → Rose (S.faults source.old) (S.faults source.new) }
-    ensures not_built { result ≡ Status.NotBuilt → ReadsOther (S.left source.old) (S.left source.new) }
-    ensures no_usage { (text : List ℕ) → result ≡ Status.Usage text → ⊥ }
-    ensures unwritten { IsUnwritten result → sink.new ≡ sink.old }
-    ensures complete { (input : List ℕ) (steps : List FirstStep) → S.left source.old ≡ Some input
-        → length input ≤ 65536 → IsFirst steps input
-        → (Rose (S.faults source.old) (S.faults source.new) → ⊥)
-        → (Rose (K.faults sink.old) (K.faults sink.new) → ⊥)
-        → (result ≡ Status.Done) ⊎ (result ≡ Status.NoMemory) }
-    ensures taken { ConsumesAtMost (S.left source.old) (S.left source.new) 65537 }
-    ensures read_count { S.faults source.old ≤ S.faults source.new }
-    ensures write_count { K.faults sink.old ≤ K.faults sink.new }
-{
-    let script = match read_script(alloc, source) {
-        Ok(script) => script,
-        Err(NoScript::ReadFault) => return Status::ReadFault,
-        Err(NoScript::NotBuilt) => return Status::NotBuilt,
-        Err(NoScript::NoMemory) => return Status::NoMemory,
-    };
-    match write_report(alloc, gate, &script.steps, sink) {
-        Ok(()) => Status::Done,
-        Err(NoReport::WriteFault) => Status::WriteFault,
-        Err(NoReport::NoMemory) => Status::NoMemory,
-    }
-}
-
-/// Does all that the program does. `words` are those after its name; the one command is `run`. It reads a script of the
-/// first form from `source`, tells `gate` of each request before it runs, and writes the report to `sink`.
+/// Does all that the program does. `words` are those after its name; the one command is `run`. It reads a script of one session
+/// from `source`, runs the session on no databases, with `gate` told of each request before it runs, and then writes its report to
+/// `sink`, in one piece.
 ///
-/// Refusals come in this order: `Usage`, before anything is read; `ReadFault`, or `NotBuilt` by length, whichever is met
-/// first; `NotBuilt`; `WriteFault`. The disk is handed back as it came.
+/// Refusals come in this order: `Usage`, before anything is read; `ReadFault` or `TooLong`, whichever is met first while reading;
+/// `BadScript`; `NotBuilt`; `WriteFault`. The disk is handed back as it came. That `Stuck` never comes isn't proved.
 pub fn run_words<R: Threads + Wait + Sync, S: Source, K: Sink, D, G: Gate + Sync>(
     rt: &R,
     alloc: Global,
@@ -86,46 +59,98 @@ pub fn run_words<R: Threads + Wait + Sync, S: Source, K: Sink, D, G: Gate + Sync
     disk: D,
     gate: &G,
 ) -> Ended<D>
-    // The source was read to its end, what was read is a script, and its report was appended, and nothing else.
+    // The source was read to its end, and what was read is a script of one session; the text of a report was appended, and nothing
+    // else; and that is a legal report of the session, from no databases.
     ensures done { result.status ≡ Status.Done
-        → (steps : List FirstStep) × ReadsFirst (S.left source.old) (S.left source.new) steps
-        × Appends (K.held sink.old) (K.held sink.new) (report_of steps) }
+        → (session : ScriptSession) × (report : Report) × (closing : Items)
+        × ReadsAs (S.left source.old) (S.left source.new) (Ok (one_session session))
+        × Appends (K.held sink.old) (K.held sink.new) (text_of_report report)
+        × IsLegalReport session 1 finite.empty report closing }
 
-    // A front of the report was appended, and nothing else.
+    // A front of that text was appended, and nothing else.
     ensures write_fault { result.status ≡ Status.WriteFault
-        → (steps : List FirstStep) × ReadsFirst (S.left source.old) (S.left source.new) steps
-        × AppendsFront (K.held sink.old) (K.held sink.new) (report_of steps) }
+        → (session : ScriptSession) × (report : Report) × (closing : Items)
+        × ReadsAs (S.left source.old) (S.left source.new) (Ok (one_session session))
+        × AppendsFront (K.held sink.old) (K.held sink.new) (text_of_report report)
+        × IsLegalReport session 1 finite.empty report closing }
 
     // The cause of each other status.
     ensures usage { (text : List ℕ) → result.status ≡ Status.Usage text → (text ≡ usage_text)
         × (IsRun words.now → ⊥) }
-    ensures not_built { result.status ≡ Status.NotBuilt → ReadsOther (S.left source.old) (S.left source.new) }
+    ensures too_long { result.status ≡ Status.TooLong → ReadsTooMuch (S.left source.old) (S.left source.new) }
+    ensures bad_script { (place : ℕ) → result.status ≡ status.BadScript place
+        → ReadsAs (S.left source.old) (S.left source.new) (Err place) }
+    ensures not_built { result.status ≡ Status.NotBuilt
+        → (script : Script) × ReadsAs (S.left source.old) (S.left source.new) (Ok script)
+        × IsOfOthers script }
     ensures read_cause { result.status ≡ Status.ReadFault → Rose (S.faults source.old) (S.faults source.new) }
     ensures write_cause { result.status ≡ Status.WriteFault → Rose (K.faults sink.old) (K.faults sink.new) }
+    ensures stuck { result.status ≡ Status.Stuck → (session : ScriptSession)
+        × ReadsAs (S.left source.old) (S.left source.new) (Ok (one_session session)) }
 
     // Other words come to nothing else, and nothing is read then.
     ensures refused { (IsRun words.now → ⊥) → (result.status ≡ Status.Usage usage_text)
         ⊎ (result.status ≡ Status.NoMemory) }
     ensures untouched { (IsRun words.now → ⊥) → (source.new ≡ source.old) × (sink.new ≡ sink.old) }
 
-    // A script gets its report, where nothing fails and memory lasts.
-    ensures complete { IsRun words.now
-        → (input : List ℕ) (steps : List FirstStep) → S.left source.old ≡ Some input
-        → length input ≤ 65536 → IsFirst steps input
+    // Where nothing fails and memory lasts, each input gets its status.
+    ensures complete { IsRun words.now → (input : List ℕ) → S.left source.old ≡ Some input
         → (Rose (S.faults source.old) (S.faults source.new) → ⊥)
         → (Rose (K.faults sink.old) (K.faults sink.new) → ⊥)
-        → (result.status ≡ Status.Done) ⊎ (result.status ≡ Status.NoMemory) }
+        → (result.status ≡ due_of input) ⊎ (result.status ≡ Status.NoMemory)
+        ⊎ ((result.status ≡ Status.Stuck) × (due_of input ≡ Status.Done)) }
 
     ensures unwritten { IsUnwritten result.status → sink.new ≡ sink.old }
-    ensures taken { ConsumesAtMost (S.left source.old) (S.left source.new) 65537 }
+    ensures taken { ConsumesAtMost (S.left source.old) (S.left source.new) (MOST_SCRIPT_BYTES + 1) }
     ensures disk { result.disk ≡ disk }
     ensures read_count { S.faults source.old ≤ S.faults source.new }
     ensures write_count { K.faults sink.old ≤ K.faults sink.new }
 {
     if !is_run(words) {
-        let status = usage(alloc);
-        return Ended { status, disk };
+        return Ended {
+            status: usage(alloc),
+            disk,
+        };
     }
-    let status = run(alloc, source, sink, gate);
-    Ended { status, disk }
+    let session = match read_session(alloc, source) {
+        Ok(session) => session,
+        Err(NoScript::ReadFault) => return Ended {
+            status: Status::ReadFault,
+            disk,
+        },
+        Err(NoScript::TooLong) => return Ended {
+            status: Status::TooLong,
+            disk,
+        },
+        Err(NoScript::BadScript { place }) => return Ended {
+            status: Status::BadScript { place },
+            disk,
+        },
+        Err(NoScript::NotBuilt) => return Ended {
+            status: Status::NotBuilt,
+            disk,
+        },
+        Err(NoScript::NoMemory) => return Ended {
+            status: Status::NoMemory,
+            disk,
+        },
+    };
+    match write_report(alloc, gate, session, sink) {
+        Ok(()) => Ended {
+            status: Status::Done,
+            disk,
+        },
+        Err(NoReport::WriteFault) => Ended {
+            status: Status::WriteFault,
+            disk,
+        },
+        Err(NoReport::NoMemory) => Ended {
+            status: Status::NoMemory,
+            disk,
+        },
+        Err(NoReport::Stuck) => Ended {
+            status: Status::Stuck,
+            disk,
+        },
+    }
 }

@@ -1,27 +1,35 @@
-ghost use Rattle.std.specs.Prelude.{◌≡◌, option_map};
+ghost use Rattle.std.specs.Prelude.{◌≡◌, ◌↔◌, IsTrue, Some};
+ghost use Rattle.script_runner.specs.Statuses.{number_of, line_of};
 
 use clone_values::Text;
+use std::fmt;
 
-/// How a call of the program ended.
+/// How a call of the program ended. Its `Display` is the line for standard error, without its line feed; it is empty where the report
+/// is written.
 #[derive(Debug, Drop)]
 pub enum Status {
     /// The report is written.
     Done,
     /// The words aren't a command; the text says what is.
     Usage { text: Text },
+    /// More than 16,777,216 bytes were read.
+    TooLong,
+    /// What was read is no script. The place is that of the first faulty node of its JSON document: nodes are numbered from 1, each
+    /// before those in it, the members of an object in the order of their names. It is 0 where the bytes are no such document.
+    BadScript { place: u64 },
     /// The source failed.
     ReadFault,
     /// The sink failed; what was written is a front of the report.
     WriteFault,
     /// Memory ran out.
     NoMemory,
-    /// What was read is longer than 65,536 bytes, or isn't a script of the first form.
+    /// The script has more than one session.
     NotBuilt,
+    /// The session came to a state in which its driver can't go on. No script is known that comes there; that none does isn't proved.
+    Stuck,
 }
 
 impl Status {
-    ghost use Rattle.script_runner.specs.Statuses.{number_of, line_of};
-
     /// The number that the program ends with.
     pub fn number(&self) -> u8
         ensures { result ≡ number_of self.now }
@@ -29,24 +37,44 @@ impl Status {
         match self {
             Status::Done => 0,
             Status::Usage { text: _ } => 2,
+            Status::TooLong => 3,
+            Status::BadScript { place: _ } => 4,
             Status::ReadFault => 5,
             Status::WriteFault => 6,
             Status::NoMemory => 9,
             Status::NotBuilt => 11,
+            Status::Stuck => 15,
         }
     }
 
-    /// The line for standard error, without its line feed. There is none where the report is written.
-    pub fn line(&self) -> Option<&str>
-        ensures { option_map (λ t. t.now) result ≡ line_of self.now }
+    /// Whether the report is written.
+    pub fn is_done(&self) -> bool
+        ensures { IsTrue result ↔ self.now ≡ Status.Done }
     {
         match self {
-            Status::Done => None,
-            Status::Usage { text } => Some(text.as_str()),
-            Status::ReadFault => Some("idbrun: read fault"),
-            Status::WriteFault => Some("idbrun: write fault"),
-            Status::NoMemory => Some("idbrun: no memory"),
-            Status::NotBuilt => Some("idbrun: not built"),
+            Status::Done => true,
+            _ => false,
+        }
+    }
+}
+
+impl fmt::Display for Status {
+    ghost output = { λ x. Some (line_of x) };
+
+    fn fmt<W: fmt::Write>(&self, f: &mut fmt::Formatter<W>) -> fmt::Result {
+        match self {
+            Status::Done => Ok(()),
+            Status::Usage { text } => {
+                let text = text.as_str();
+                write!(f, "{text}")
+            }
+            Status::TooLong => write!(f, "idbrun: script too long"),
+            Status::BadScript { place } => write!(f, "idbrun: bad script at {place}"),
+            Status::ReadFault => write!(f, "idbrun: read fault"),
+            Status::WriteFault => write!(f, "idbrun: write fault"),
+            Status::NoMemory => write!(f, "idbrun: no memory"),
+            Status::NotBuilt => write!(f, "idbrun: not built"),
+            Status::Stuck => write!(f, "idbrun: stuck"),
         }
     }
 }

@@ -16,16 +16,30 @@ const SCRIPT: &str = r#"{"sessions":[{"clients":[{"blocks":{
  "go":[{"op":"transaction","scope":["s"],"mode":"readwrite","body":"b"}],
  "b":[{"op":"put","store":"s","key":1,"value":7},{"op":"get","store":"s","query":1}]}}]}]}"#;
 
-const BODY: &str =
-    r#"{"op":"put","store":"s","key":1,"value":7},{"op":"get","store":"s","query":1}"#;
+const REPORT: &str =
+    "session 1\nopening\nclient 1\nopen 1 upgrade 0 1 tx 1\ntx 1 complete\nopen 1 success 1\ntx 2 create readwrite relaxed\ntx 2 req 1 success 1\ntx 2 req 2 success 7\ntx 2 complete\norder a1.1 e1 s1 f1 e1 t2.1 s2 f2\nfinish 1 2\ncommit 1 2\nend flush\n";
 
-const OPENING: &str =
-    "session 1\nopening\nclient 1\nopen 1 upgrade 0 1 tx 1\ntx 1 complete\nopen 1 success 1\ntx 2 create readwrite relaxed\n";
+const TWO_CLIENTS: &str =
+    r#"{"sessions":[{"clients":[{"blocks":{"main":[{"op":"say","value":1}]}},{"blocks":{"main":[]}}],"end":"drop"}]}"#;
 
-const CLOSING: &str =
-    "tx 2 complete\norder a1.1 e1 s1 f1 e1 t2.1 s2 f2\nfinish 1 2\ncommit 1 2\nend flush\n";
+const TWO_SESSIONS: &str =
+    r#"{"sessions":[{"clients":[{"blocks":{"main":[]}}]},{"clients":[{"blocks":{"main":[]}}]}]}"#;
 
-// Adds up the numbers of the requests that it is told of.
+const MISSPELT: &str =
+    r#"{"sessions":[{"clients":[{"blocks":{"main":[{"op":"say","valu":1}]}}]}]}"#;
+
+// Three puts in the transaction 2 of client 1, the third by a handler, and one in the transaction 3 of client 2.
+const FOUR_PUTS: &str = r#"{"sessions":[{"clients":[{"blocks":{
+ "main":[{"op":"open","db":"d","upgrade":"up","success":"go"}],
+ "up":[{"op":"createObjectStore","store":"s"}],
+ "go":[{"op":"transaction","scope":["s"],"mode":"readwrite","body":"b"}],
+ "b":[{"op":"put","store":"s","key":1,"value":7},{"op":"put","store":"s","key":2,"value":7,"success":"h"}],
+ "h":[{"op":"put","store":"s","key":3,"value":7}]}},{"blocks":{
+ "main":[{"op":"open","db":"d","success":"go"}],
+ "go":[{"op":"transaction","scope":["s"],"mode":"readwrite","body":"b"}],
+ "b":[{"op":"put","store":"s","key":4,"value":7}]}}]}]}"#;
+
+// Adds up what it is told: 10,000 a client, 100 a transaction, and the request.
 #[derive(Drop)]
 struct CountingGate {
     calls: AtomicU64,
@@ -34,9 +48,12 @@ struct CountingGate {
 
 impl Gate for CountingGate {
     fn at(&self, client: u32, tx: u64, request: u32) {
-        if client == 1 && tx == 2 {
+        if client < 100 && tx < 100 && request < 100 {
             self.calls.fetch_add(1, Ordering::SeqCst);
-            self.sum.fetch_add(u64::from(request), Ordering::SeqCst);
+            self.sum.fetch_add(
+                u64::from(client) * 10_000 + tx * 100 + u64::from(request),
+                Ordering::SeqCst,
+            );
         }
     }
 }
@@ -52,15 +69,16 @@ fn words_of(alloc: Global, texts: &[&str]) -> Result<Vec<Text>, NoMemory> {
     Ok(words)
 }
 
-// The number of the status, the line, and what was written, for the one word `run`.
+// The number of the status, the line, and what was written.
 fn run_on<R: Threads + Wait + Sync + Abort>(
     rt: &R,
     alloc: Global,
+    texts: &[&str],
     input: &[u8],
     failing_reads: &[u64],
     room: usize,
 ) -> Result<(u8, String, String), Fail> {
-    let words = words_of(alloc, &["run"])?;
+    let words = words_of(alloc, texts)?;
     let mut source = MemorySource::new(
         Vec::from_slice(alloc, input)?,
         Vec::from_slice(alloc, failing_reads)?,
@@ -76,7 +94,7 @@ fn run_on<R: Threads + Wait + Sync + Abort>(
         &OpenGate,
     );
     assert_eq!(rt; disk, 7, "the disk comes back as it was");
-    let line = String::from_str(alloc, status.line().unwrap_or(""))?;
+    let line = format!(in alloc; "{status}")?;
     let text = String::from_utf8_lossy(alloc, sink.bytes())?;
     Ok((status.number(), line, text))
 }
@@ -84,53 +102,69 @@ fn run_on<R: Threads + Wait + Sync + Abort>(
 #[test]
 fn prints_the_report(rt: HostRuntime) -> Result<(), Fail> {
     let cases = [
-        (BODY, "tx 2 req 1 success 1\ntx 2 req 2 success 7\n"),
+        (SCRIPT, REPORT),
         (
-            r#"{"op":"get","store":"s","query":5},{"op":"put","store":"s","key":5,"value":6},{"op":"get","store":"s","query":5}"#,
-            "tx 2 req 1 success {\"$undefined\":null}\ntx 2 req 2 success 5\ntx 2 req 3 success 6\n",
-        ),
-        ("", ""),
-        // the last of two puts counts, and a put of another key doesn't
-        (
-            r#"{"op":"put","store":"s","key":1,"value":2},{"op":"put","store":"s","key":1,"value":3},{"op":"put","store":"s","key":-1,"value":4},{"op":"get","store":"s","query":1}"#,
-            "tx 2 req 1 success 1\ntx 2 req 2 success 1\ntx 2 req 3 success -1\ntx 2 req 4 success 3\n",
+            TWO_CLIENTS,
+            "session 1\nopening\nclient 1\nsay 1\nclient 2\norder\nfinish\ncommit\nend drop\n",
         ),
     ];
-    for (body, lines) in cases {
-        let input = SCRIPT.replace(rt.alloc(), BODY, body)?;
-        let (status, line, text) = run_on(&rt, rt.alloc(), input.as_bytes(), &[], 4096)?;
-        let want = format!(in rt.alloc(); "{OPENING}{lines}{CLOSING}")?;
-        assert_eq!(rt; (status, line.as_str()), (0, ""), "{body}");
-        assert_eq!(rt; text.as_str(), want.as_str(), "{body}");
+    for (input, report) in cases {
+        let (status, line, text) = run_on(&rt, rt.alloc(), &["run"], input.as_bytes(), &[], 4096)?;
+        assert_eq!(rt; (status, line.as_str()), (0, ""), "{input}");
+        assert_eq!(rt; text.as_str(), report, "{input}");
     }
     Ok(())
 }
 
 #[test]
 fn refuses_and_fails(rt: HostRuntime) -> Result<(), Fail> {
-    let long = vec![in rt.alloc(); b' '; 65_537]?;
-    let cases: [(&[u8], &[u64], usize, u8, &str, &str); 8] = [
-        (b"", &[], 4096, 11, "idbrun: not built", ""),
-        (b"\xff", &[], 4096, 11, "idbrun: not built", ""),
-        (b"{\"sessions\":[]}", &[], 4096, 11, "idbrun: not built", ""),
-        (long.as_slice(), &[], 4096, 11, "idbrun: not built", ""),
-        (SCRIPT.as_bytes(), &[1], 4096, 5, "idbrun: read fault", ""),
-        (SCRIPT.as_bytes(), &[2], 4096, 5, "idbrun: read fault", ""),
+    let cases: [(&str, &[u64], usize, u8, &str, &str); 10] = [
+        ("", &[], 4096, 4, "idbrun: bad script at 0", ""),
         (
-            SCRIPT.as_bytes(),
+            "{\"sessions\":[",
             &[],
-            10,
-            6,
-            "idbrun: write fault",
-            "session 1\n",
+            4096,
+            4,
+            "idbrun: bad script at 0",
+            "",
         ),
-        (SCRIPT.as_bytes(), &[], 0, 6, "idbrun: write fault", ""),
+        ("[]", &[], 4096, 4, "idbrun: bad script at 1", ""),
+        (
+            "{\"sessions\":3}",
+            &[],
+            4096,
+            4,
+            "idbrun: bad script at 2",
+            "",
+        ),
+        (MISSPELT, &[], 4096, 4, "idbrun: bad script at 8", ""),
+        (TWO_SESSIONS, &[], 4096, 11, "idbrun: not built", ""),
+        (SCRIPT, &[1], 4096, 5, "idbrun: read fault", ""),
+        (SCRIPT, &[2], 4096, 5, "idbrun: read fault", ""),
+        (SCRIPT, &[], 10, 6, "idbrun: write fault", "session 1\n"),
+        (SCRIPT, &[], 0, 6, "idbrun: write fault", ""),
     ];
     for (input, failing_reads, room, number, line, text) in cases {
-        let (found, said, written) = run_on(&rt, rt.alloc(), input, failing_reads, room)?;
-        assert_eq!(rt; (found, said.as_str()), (number, line));
-        assert_eq!(rt; written.as_str(), text, "{line}");
+        let (found, said, written) = run_on(
+            &rt,
+            rt.alloc(),
+            &["run"],
+            input.as_bytes(),
+            failing_reads,
+            room,
+        )?;
+        assert_eq!(rt; (found, said.as_str()), (number, line), "{input}");
+        assert_eq!(rt; written.as_str(), text, "{input}");
     }
+    Ok(())
+}
+
+#[test]
+fn refuses_a_script_that_is_too_long(rt: HostRuntime) -> Result<(), Fail> {
+    let input = vec![in rt.alloc(); b' '; 16_777_217]?;
+    let (found, said, written) = run_on(&rt, rt.alloc(), &["run"], input.as_slice(), &[], 4096)?;
+    assert_eq!(rt; (found, said.as_str()), (3, "idbrun: script too long"));
+    assert_eq!(rt; written.as_str(), "");
     Ok(())
 }
 
@@ -138,47 +172,21 @@ fn refuses_and_fails(rt: HostRuntime) -> Result<(), Fail> {
 fn takes_the_one_word(rt: HostRuntime) -> Result<(), Fail> {
     let cases: [&[&str]; 4] = [&[], &["x"], &["run", "x"], &["run", "--drivers", "0"]];
     for texts in cases {
-        let words = words_of(rt.alloc(), texts)?;
-        let mut source = MemorySource::new(
-            Vec::from_slice(rt.alloc(), SCRIPT.as_bytes())?,
-            Vec::new(rt.alloc()),
-        );
-        let mut sink = MemorySink::with_room(rt.alloc(), 4096, Vec::new(rt.alloc()))?;
-        let ended = run_words(
-            &rt,
-            rt.alloc(),
-            words.as_slice(),
-            &mut source,
-            &mut sink,
-            (),
-            &OpenGate,
-        );
-        assert_eq!(rt; ended.status.number(), 2);
-        assert_eq!(rt; ended.status.line(), Some("idbrun: usage: idbrun run"));
-        assert_eq!(rt; sink.bytes().len(), 0);
+        let (found, said, written) = run_on(&rt, rt.alloc(), texts, SCRIPT.as_bytes(), &[], 4096)?;
+        assert_eq!(rt; (found, said.as_str()), (2, "idbrun: usage: idbrun run"));
+        assert_eq!(rt; written.as_str(), "");
     }
     Ok(())
 }
 
 #[test]
 fn tells_the_gate_of_each_request(rt: HostRuntime) -> Result<(), Fail> {
-    let mut body = String::new(rt.alloc());
-    for i in 0..1000u32 {
-        if i > 0 {
-            body.push(',')?;
-        }
-        write!(
-            body,
-            "{{\"op\":\"put\",\"store\":\"s\",\"key\":{i},\"value\":0}}"
-        )?;
-    }
-    let input = SCRIPT.replace(rt.alloc(), BODY, body.as_str())?;
     let words = words_of(rt.alloc(), &["run"])?;
     let mut source = MemorySource::new(
-        Vec::from_slice(rt.alloc(), input.as_bytes())?,
+        Vec::from_slice(rt.alloc(), FOUR_PUTS.as_bytes())?,
         Vec::new(rt.alloc()),
     );
-    let mut sink = MemorySink::with_room(rt.alloc(), 65_536, Vec::new(rt.alloc()))?;
+    let mut sink = MemorySink::with_room(rt.alloc(), 4096, Vec::new(rt.alloc()))?;
     let gate = CountingGate {
         calls: AtomicU64::new(0),
         sum: AtomicU64::new(0),
@@ -192,14 +200,11 @@ fn tells_the_gate_of_each_request(rt: HostRuntime) -> Result<(), Fail> {
         (),
         &gate,
     );
-    assert_eq!(rt; ended.status.number(), 0);
-    assert_eq!(rt; gate.calls.load(Ordering::SeqCst), 1000);
-    assert_eq!(rt; gate.sum.load(Ordering::SeqCst), 500_500);
-    let text = String::from_utf8_lossy(rt.alloc(), sink.bytes())?;
-    assert_eq!(rt; text.as_str().lines().count(), 1012);
-    assert!(rt;
-        text.as_str()
-            .contains("\ntx 2 req 1000 success 999\ntx 2 complete\n")
+    assert!(rt; ended.status.is_done());
+    assert_eq!(rt; gate.calls.load(Ordering::SeqCst), 4);
+    assert_eq!(rt;
+        gate.sum.load(Ordering::SeqCst),
+        10_201 + 10_202 + 10_203 + 20_301
     );
     Ok(())
 }

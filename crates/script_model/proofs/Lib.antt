@@ -1,3 +1,0 @@
-pub mod DocumentLemmas
-pub mod FirstFormLemmas
-pub mod FirstResultLemmas

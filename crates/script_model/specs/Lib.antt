@@ -1,4 +1,0 @@
-pub mod Document
-pub mod FirstForm
-pub mod FirstResults
-pub mod Reading
