@@ -47,7 +47,7 @@ pub record FitsPlain (there : Option SchemaData) (name : Name) (body : ScriptedB
 pub record FitsUpgrade (there : Option SchemaData) (name : Name) (new : ℕ) (body : ScriptedBody Script) : Type 0 where
   pub mode_is : body.mode ≡ mode.VersionChange
   pub names_are : body.names ≡ []
-  pub schema_is : body.schema ≡ schema_or_new name there
+  pub schema_is : body.schema ≡ at_new_version new (schema_or_new name there)
   pub name_is : body.schema.name ≡ name
   pub few : length body.schema.entries ≤ GREATEST_STORE_COUNT
 
@@ -71,7 +71,7 @@ pub record FitsDrawn (d : DeskState) (client : ℕ) (tx : ClientTx) : Type 0 whe
   pub drawn : DrawnTx
   pub name : Name
   pub there : IsUnfinishedOf d tx.number name drawn
-  pub client_is : client ≡ client
+  pub client_is : drawn.who.client ≡ client
   pub fits : FitsKind (database_under d name) name drawn.kind tx.kind tx.body
 
 -- ---- clients

@@ -29,4 +29,4 @@ pub record IsShown (now : SessionNow) : Type 0 where
 
 abbrev pub IsSoundKept : Option SchemaData → Type 0
 IsSoundKept None = ⊤
-IsSoundKept (Some schema) = ⊤
+IsSoundKept (Some schema) = IsSchema schema
