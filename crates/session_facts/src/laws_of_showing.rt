@@ -81,7 +81,7 @@ pub fn showing_laws()
         → RunsOn ScriptReacts ScriptWrites (part_of
         (scope_of_body t.body) now.items) t.body t.turns changes kept false outcome
         → IsSoundKept kept
-        → IsShown (with_finished (entry_ran t [] kept outcome) (with_seat place r seat now)) }
+        → IsShown (with_finished (entry_ran t changes kept outcome) (with_seat place r seat now)) }
     ensures cancel { (session : ScriptSession) (opening : Items) (now : SessionNow)
         (running : Option RunningTx)
         (place : ℕ) (script : Client) (before seat : SeatNow) (acts : List Act) (r : DeskRun) (number : ℕ)
