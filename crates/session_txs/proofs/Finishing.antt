@@ -7,7 +7,6 @@
 use Rattle.std.proofs.Common.{◌≡◌, ℕ, List, [], ◌∷◌, ◌++◌, Option, Some, None, refl, sym, ◌∙◌, ap, subst}
 use Rattle.std.specs.Prelude.{Bool, true, false, if◌then◌else◌}
 use Rattle.std.specs.FinMap as finite
-use Rattle.std.specs.List.{flat_map}
 use Rattle.std.proofs.lemmas.Grind.{flat_map-append}
 use Rattle.std.proofs.lemmas.List.{append-nil}
 use Rattle.idb_keys.specs.declared.names.ErrorName.{ErrorName}
@@ -21,21 +20,21 @@ use Rattle.item_changes.specs.Items.{Name, Database, Items, stores_in}
 use Rattle.item_changes.specs.Effects.{made_all, applied_all}
 use Rattle.item_changes.specs.Scopes.{Scope, AllWithin, part_of}
 use Rattle.idb_databases.specs.Stores.{Stores}
-use Rattle.request_lists.specs.Fronts.{new_front, front_map}
+use Rattle.request_lists.specs.Fronts.{new_front}
 use Rattle.request_lists.specs.Placing.{Becomes, after_rest, after_throw}
 use Rattle.list_machine.specs.States.{State, fresh_state, opening_changes}
 use Rattle.list_machine.specs.Machine.{Reacts, Writes, GoesOn, Begins, Goes}
 use Rattle.machine_laws.specs.Keeping.{IsState}
 use Rattle.live_stores.specs.Live.{database_at}
-use Rattle.serial_order.specs.FinishEntries.{ScriptedBody, Scripted, FinishEntry, front_left, scope_of_body, scope_of_entry, changes_kept}
-use Rattle.serial_order.specs.SerialRuns.{GoesBy, Fresh, Further, joined_lines, AbortsItself, schema_kept, ScriptedRun, RunsAlone}
+use Rattle.serial_order.specs.FinishEntries.{ScriptedBody, Scripted, FinishEntry, front_left, scope_of_entry, changes_kept}
+use Rattle.serial_order.specs.SerialRuns.{GoesBy, Fresh, Further, joined_lines, schema_kept, ScriptedRun, RunsAlone}
 use Rattle.serial_order.specs.NumberOrder.{FitsWhole}
 use Rattle.script_runs.specs.declared.notes.Note.{Note}
 use Rattle.script_handlers.specs.declared.handlers.ScriptHandler.{ScriptHandler}
 use Rattle.script_handlers.specs.Handling.{Script, ScriptReacts, ScriptWrites}
 use Rattle.session_databases.specs.Parts.{scope_of, without_part, with_part}
 use Rattle.session_txs.specs.Running.{SessionTxState, scope_of_scripted, LeavesItsPart, RanAndLeft}
-use Rattle.session_txs.specs.Keeping.{version_there, version_after, begun_state, state_now, GoesSo, HasRunOut, StandsAfter, IsRunning}
+use Rattle.session_txs.specs.Keeping.{version_there, version_after, begun_state, state_now, IsRunning}
 use Rattle.session_txs.proofs.Openings.{mode_of_body, left_mode}
 use Rattle.session_txs.proofs.Versions.{goes_version}
 

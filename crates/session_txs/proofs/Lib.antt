@@ -1,5 +1,3 @@
-pub mod Definitions
-pub mod Sifting
 pub mod Openings
 pub mod Versions
 pub mod Stepping

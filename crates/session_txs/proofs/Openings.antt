@@ -4,6 +4,7 @@
 --     begun_as              its state, of a front and all else
 --     ready_as              it can run
 --     running_as            and what it keeps
+--     fits_so               the part that was taken out was made by its schema
 use Rattle.std.proofs.Common.{◌≡◌, ℕ, List, [], Option, Some, None, refl, sym, ◌∙◌, ap, subst}
 use Rattle.std.specs.Prelude.{Bool, true, false, not, ◌&&◌, if◌then◌else◌}
 use Rattle.idb_keys.specs.declared.names.Mode.{Mode}
@@ -18,15 +19,13 @@ use Rattle.request_lists.specs.Placing.{Becomes, aborted_by, after_rest, after_t
 use Rattle.request_lists.proofs.Laws.{becomes_plain}
 use Rattle.list_machine.specs.States.{State, fresh_state, opening_changes}
 use Rattle.list_machine.specs.Seeing.{state_map}
-use Rattle.machine_laws.specs.Limiting.{scope_in}
 use Rattle.machine_laws.proofs.Laws.{scope_made}
 use Rattle.live_stores.specs.Live.{database_at, live_from}
 use Rattle.tx_courses.specs.Courses.{CourseData, state_with, course_opened}
 use Rattle.live_tx.specs.Live.{IsReadyState}
-use Rattle.serial_order.specs.FinishEntries.{ScriptedBody, front_left}
 use Rattle.serial_order.specs.SerialRuns.{GoesBy, Fresh}
 use Rattle.script_handlers.specs.declared.handlers.ScriptHandler.{ScriptHandler}
-use Rattle.script_handlers.specs.Handling.{Script, ScriptReacts, ScriptWrites}
+use Rattle.script_handlers.specs.Handling.{ScriptReacts, ScriptWrites}
 use Rattle.script_handlers.specs.Seeing.{script_seen}
 use Rattle.client_parts.specs.Begun.{BegunState, scripted_body}
 use Rattle.client_parts.specs.declared.begun.BegunParts.{BegunParts}
@@ -38,7 +37,6 @@ use Rattle.script_runs.specs.declared.notes.Note.{Note}
 use Rattle.session_databases.specs.Parts.{scope_of}
 use Rattle.session_txs.specs.Running.{scope_of_scripted}
 use Rattle.idb_databases.specs.Stores.{Stores}
-use Rattle.session_txs.specs.Fitting.{IsMadeBy}
 use Rattle.session_txs.specs.Keeping.{version_there, version_after, begun_state, GoesSo, IsRunning}
 
 -- ---- modes
@@ -108,14 +106,14 @@ version_at : (version : Option ℕ) (stores : Stores) → version ≡ version_th
 version_at None stores = refl
 version_at (Some v) stores = refl
 
-module _ (m : Mode) (schema : SchemaData) (names : List Name) (front : Front ScriptHandler) (version : Option ℕ) (stores : Stores) (threw : Bool) (b : Becomes (new_front m schema names) front) (made : IsMadeBy m schema (database_at version stores)) where
+module _ (m : Mode) (schema : SchemaData) (names : List Name) (front : Front ScriptHandler) (version : Option ℕ) (stores : Stores) (threw : Bool) (b : Becomes (new_front m schema names) front) (made : FitsWhole (database_at version stores) (scripted_body m schema names front threw)) where
   abbrev part : Option Database
   part = database_at version stores
 
   fresh : (name : Name) (after : Option ℕ) → name ≡ schema.name → after ≡ version_after m schema.version version → IsRunning (scripted_body m schema names front threw) name version after (fresh_state (left_of threw front) schema part) [] false None
   fresh name after named left = record {
     placed = becomes_plain script_seen (new_front m schema names) front b;
-    fits = record { schema = made.sound; shows = made.shows; raised = made.raised };
+    fits = made;
     name_is = named;
     before_is = version_at version stores;
     after_is = left ∙ ap (version_after m schema.version) (version_at version stores);
@@ -134,19 +132,13 @@ module _ (m : Mode) (schema : SchemaData) (names : List Name) (front : Front Scr
       (subst (λ x. IsRunning (scripted_body m x names front_seen threw) name version after state [] false None) (sym s)
       (subst (λ x. IsRunning (scripted_body m schema names x threw) name version after state [] false None) (sym f) (running_as name after named left state is)))
 
--- ---- whether its part is as its schema says
+-- ---- its part was made by its schema
 module _ (begun : BegunState) (p : BegunParts) (is : begun ≡ parts_seen p) (items : Items) (database : Name) (named : database ≡ p.schema.name) (version : Option ℕ) (stores : Stores)
     (taken : database_at version stores ≡ part_of (scope_of p.mode database p.names) items) where
   its_part : database_at version stores ≡ part_of (scope_of p.mode p.schema.name p.names) items
   its_part = taken ∙ ap (λ n. part_of (scope_of p.mode n p.names) items) named
 
-  pub fits_so : IsMadeBy p.mode p.schema (database_at version stores) → FitsWhole (part_of (scope_of_scripted begun.body) items) begun.body
-  fits_so made =
-      let here : FitsWhole (database_at version stores) (parts_seen p).body = record { schema = made.sound; shows = made.shows; raised = made.raised } in
-      subst (λ (b : BegunState). FitsWhole (part_of (scope_of_scripted b.body) items) b.body) (sym is) (subst (λ o. FitsWhole o (parts_seen p).body) its_part here)
-
-  pub unfit_so : (IsMadeBy p.mode p.schema (database_at version stores) → ⊥) → FitsWhole (part_of (scope_of_scripted begun.body) items) begun.body → ⊥
-  unfit_so unmade fits =
+  pub fits_so : FitsWhole (part_of (scope_of_scripted begun.body) items) begun.body → FitsWhole (database_at version stores) (scripted_body p.mode p.schema p.names p.front p.threw)
+  fits_so fits =
       let there : FitsWhole (part_of (scope_of_scripted (parts_seen p).body) items) (parts_seen p).body = subst (λ (b : BegunState). FitsWhole (part_of (scope_of_scripted b.body) items) b.body) is fits in
-      let here : FitsWhole (database_at version stores) (parts_seen p).body = subst (λ o. FitsWhole o (parts_seen p).body) (sym its_part) there in
-      unmade (record { sound = here.schema; shows = here.shows; raised = here.raised })
+      subst (λ o. FitsWhole o (parts_seen p).body) (sym its_part) there

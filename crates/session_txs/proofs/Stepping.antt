@@ -2,9 +2,8 @@
 --     lines_behind          the lines that were added
 --     goes_further, runs_out, aborts_so     its run so far
 --     did_keep, idle_keep, aborted_keep     and what it keeps
-use Rattle.std.proofs.Common.{◌≡◌, ℕ, List, [], ◌∷◌, ◌++◌, map, length, drop, Option, Some, None, refl, sym, ◌∙◌, ap, subst}
+use Rattle.std.proofs.Common.{◌≡◌, ℕ, List, [], ◌∷◌, ◌++◌, length, drop, Option, Some, None, refl, sym, ◌∙◌, ap, subst}
 use Rattle.std.specs.Prelude.{Bool, true, false}
-use Rattle.std.proofs.lemmas.List.{map-append}
 use Rattle.idb_keys.specs.declared.names.ErrorName.{ErrorName}
 use Rattle.idb_calls.specs.declared.traces.Outcome.{Outcome}
 use Rattle.idb_calls.specs.declared.traces.Outcome.TheVariants.{Committed, Aborted}

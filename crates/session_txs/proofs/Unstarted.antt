@@ -1,8 +1,9 @@
 -- A transaction that its body aborted.
 --     cancelled_so, ends_unstarted  it finishes without starting
 --     attended_left         each of its entries has its handler
-use Rattle.std.proofs.Common.{◌≡◌, ℕ, List, [], ◌∷◌, ◌++◌, map, Option, Some, None, is_some, refl, sym, ◌∙◌, ap, subst}
-use Rattle.std.specs.Prelude.{Bool, true, false, not, if◌then◌else◌}
+--     front_placed          its front became by calls what it is
+use Rattle.std.proofs.Common.{◌≡◌, ℕ, List, ◌++◌, map, Option, refl, sym, ◌∙◌, ap, subst}
+use Rattle.std.specs.Prelude.{Bool, true, false, not}
 use Rattle.idb_keys.specs.declared.names.ErrorName.{ErrorName}
 use Rattle.idb_calls.specs.declared.traces.Outcome.{Outcome}
 use Rattle.idb_calls.specs.declared.traces.Outcome.TheVariants as outcome
@@ -20,7 +21,7 @@ use Rattle.handler_calls.specs.Cancelling.{cancel_error, cancelled, cancelled_tr
 use Rattle.client_parts.specs.Begun.{BegunState, scripted_body}
 use Rattle.client_parts.specs.declared.begun.BegunParts.{BegunParts}
 use Rattle.client_parts.specs.Holding.{parts_seen}
-use Rattle.serial_order.specs.FinishEntries.{ScriptedBody, Scripted, front_left}
+use Rattle.serial_order.specs.FinishEntries.{ScriptedBody, front_left}
 use Rattle.serial_order.specs.SerialRuns.{is_aborted_phase, error_at_end}
 use Rattle.script_runs.specs.declared.notes.Note.{Note}
 use Rattle.script_handlers.specs.declared.handlers.ScriptHandler.{ScriptHandler}
@@ -66,6 +67,9 @@ module _ (body : ScriptedBody Script) (placed : Becomes (new_front body.mode bod
 -- ---- of its parts
 pub attended_left : (threw : Bool) (front left : Front ScriptHandler) → left ≡ left_of threw front → IsAttended front → ((f : Front ScriptHandler) → IsAttended f → IsAttended (after_rest f)) → ((f : Front ScriptHandler) → IsAttended f → IsAttended (after_throw f)) → IsAttended left
 attended_left threw front left is a rested thrown = subst IsAttended (sym is) (elim threw as (λ t. IsAttended (left_of t front)) [ true ↦ thrown front a | false ↦ rested front a ])
+
+pub front_placed : (begun : BegunState) (p : BegunParts) → begun ≡ parts_seen p → Becomes (new_front p.mode p.schema p.names) p.front → Becomes (new_front begun.body.mode begun.body.schema begun.body.names) begun.body.front
+front_placed begun p is b = subst (λ (x : BegunState). Becomes (new_front x.body.mode x.body.schema x.body.names) x.body.front) (sym is) (becomes_plain script_seen (new_front p.mode p.schema p.names) p.front b)
 
 pub ends_unstarted : (begun : BegunState) (p : BegunParts) → begun ≡ parts_seen p → Becomes (new_front p.mode p.schema p.names) p.front → (front : Front ScriptHandler) → front ≡ left_of p.threw p.front
     → (error : Option ErrorName) → front.phase ≡ phase.Aborted error → (trace : TxTrace) (number : ℕ) (durability : Durability) → trace ≡ cancelled_trace number durability front → (before after : List Note)

@@ -1,7 +1,7 @@
 -- No turn changes the version of the database.
 --     goes_version          none of a run's turns did
-use Rattle.std.proofs.Common.{◌≡◌, Bool, true, false, List, [], ◌∷◌, Option, Some, None, option_map, refl, sym, ◌∙◌, ap, subst}
-use Rattle.std.specs.Prelude.{ℕ, ⊤, unwrap_or}
+use Rattle.std.proofs.Common.{◌≡◌, Bool, true, false, List, Option, Some, None, option_map, refl, sym, ◌∙◌, ap}
+use Rattle.std.specs.Prelude.{unwrap_or}
 use Rattle.std.specs.Option.{option_and_then}
 use Rattle.clone_values.specs.Tree.{undefined}
 use Rattle.idb_schema.specs.declared.calls.SchemaCall.{SchemaCall}
@@ -10,7 +10,6 @@ use Rattle.idb_calls.specs.declared.calls.Call.{Call}
 use Rattle.idb_calls.specs.Deltas.{DeltaTree, CreateStore, DropStore, CreateIndex, DropIndex}
 use Rattle.item_changes.specs.Items.{Name, Database}
 use Rattle.item_changes.specs.Effects.{Effect, OnDatabase, OnStore, effect_of, made, made_all}
-use Rattle.object_stores.specs.Store.{Store}
 use Rattle.request_lists.specs.declared.entries.FrontCursor.{FrontCursor}
 use Rattle.request_lists.specs.declared.entries.ListEntry.{ListEntry}
 use Rattle.request_lists.specs.declared.entries.ListEntry.TheVariants.{Request, Turn as CursorTurn, Change}
@@ -18,7 +17,7 @@ use Rattle.request_lists.specs.Fronts.{cursor_of}
 use Rattle.list_machine.specs.declared.steps.Step.TheVariants.{Did}
 use Rattle.list_machine.specs.States.{State}
 use Rattle.list_machine.specs.Requests.{StoreHere, store_asked, Work, work_of}
-use Rattle.list_machine.specs.Entries.{Done, came, only_answered, names_of_store, done_on, done_by_work, done_by_request, done_by_turn, with_done, with_turn_taken, bytes_to_store, is_past_limit, named_change, name_of_store, deltas_of_call, stop_of_change, ran_change}
+use Rattle.list_machine.specs.Entries.{came, only_answered, names_of_store, done_on, done_by_work, done_by_request, done_by_turn, with_turn_taken, bytes_to_store, is_past_limit, named_change, name_of_store, deltas_of_call, stop_of_change, ran_change}
 use Rattle.list_machine.specs.Machine.{Reacts, Writes, Turn, with_entries}
 use Rattle.list_machine.proofs.Laws.{AllCame, limit_all, unless_all, turn_all, stands}
 use Rattle.serial_order.specs.SerialRuns.{GoesBy, Fresh, Further}

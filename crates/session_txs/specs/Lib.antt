@@ -1,4 +1,3 @@
 pub mod Running
 pub mod Codes
 pub mod Keeping
-pub mod Fitting

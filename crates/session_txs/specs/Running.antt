@@ -5,7 +5,7 @@
 --     StepsInto             what a step comes to
 --     RanAndLeft          a finished one ran on its part of the databases, and leaves there what it committed
 --     EndsUnstarted, EndsIfAborted    one that its body aborted is told so, and finishes without starting
-use Rattle.std.specs.Prelude.{◌≡◌, ℕ, true, false, List, [], ◌∷◌, ◌++◌, if◌then◌else◌, Option, Some, None, ⊤}
+use Rattle.std.specs.Prelude.{◌≡◌, ℕ, false, List, [], ◌∷◌, ◌++◌, if◌then◌else◌, Option, Some, None, ⊤}
 use Rattle.idb_schema.specs.Schemas.{SchemaData}
 use Rattle.idb_calls.specs.Deltas.{DeltaTree}
 use Rattle.idb_calls.specs.declared.traces.Outcome.{Outcome}

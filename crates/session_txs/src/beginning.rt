@@ -1,5 +1,5 @@
 // A transaction of a session begins.
-ghost use Rattle.std.specs.Prelude.{◌≡◌, [], None, OnOk, IfOk, IfSome, IfNone, IsErrOf};
+ghost use Rattle.std.specs.Prelude.{◌≡◌, [], None, OnOk, IfOk};
 ghost use Rattle.std.specs.FinMap as finite;
 ghost use Rattle.item_changes.specs.Scopes.{part_of};
 ghost use Rattle.request_lists.specs.Fronts.{new_front};
@@ -9,10 +9,8 @@ ghost use Rattle.live_stores.specs.Live.{database_at};
 ghost use Rattle.session_databases.specs.Parts.{without_part};
 ghost use Rattle.client_parts.specs.Begun.{scripted_body};
 ghost use Rattle.session_txs.specs.Running.{scope_of_scripted, begun_tx};
-ghost use Rattle.session_txs.specs.Fitting.{IsMadeBy};
 ghost use Rattle.session_txs.specs.Keeping.{version_after};
 
-use crate::fitting::fitting;
 use crate::fronts::left_front;
 use crate::session_tx::SessionTx;
 use client_parts::{BegunParts, BegunTx};
@@ -27,62 +25,23 @@ use std::alloc::Global;
 use std::snapshot::Snapshot;
 use tx_courses::{Course, opening_changes};
 
-/// Why a transaction did not begin.
-#[derive(Clone, Copy, Debug, PartialEq, Eq)]
-pub enum BeginError {
-    /// The databases are not as the schema says with which it was made.
-    Unfit,
-    /// Memory ran out.
-    NoMemory,
-}
-
 /// A transaction whose body has run begins: the part of the databases that its scope names is taken out of them. No store is copied.
-/// After an error nothing is said of the databases.
+/// It was made by the schema of that part. After `NoMemory` nothing is said of the databases.
 pub fn begin<T: Tables>(
     alloc: Global,
     databases: &mut SessionDatabases<T>,
     number: u64,
     begun: BegunTx,
-) -> Result<SessionTx<T>, BeginError>
+) -> Result<SessionTx<T>, NoMemory>
+    requires fits { FitsWhole (part_of (scope_of_scripted begun.body) databases.old) begun.body }
     ensures begins { IfOk result (λ tx. tx ≡ begun_tx number begun.body databases.old) }
     ensures left { OnOk result
         (databases.new ≡ without_part (scope_of_scripted begun.body) databases.old) }
-    ensures fits { OnOk result
-        (FitsWhole (part_of (scope_of_scripted begun.body) databases.old) begun.body) }
-    ensures unfit { IsErrOf result BeginError.Unfit
-        → FitsWhole (part_of (scope_of_scripted begun.body) databases.old) begun.body → ⊥ }
-{
-    match begin_fitting(alloc, databases, number, begun) {
-        Ok(Some(tx)) => return Ok(tx),
-        Ok(None) => return Err(BeginError::Unfit),
-        Err(_) => return Err(BeginError::NoMemory),
-    }
-}
-
-/// The same; `None` where the databases are not as the schema says.
-fn begin_fitting<T: Tables>(
-    alloc: Global,
-    databases: &mut SessionDatabases<T>,
-    number: u64,
-    begun: BegunTx,
-) -> Result<Option<SessionTx<T>>, NoMemory>
-    ensures begins { IfOk result (λ o. IfSome o (λ tx. tx ≡ begun_tx number begun.body databases.old)) }
-    ensures left { OnOk result
-        (databases.new ≡ without_part (scope_of_scripted begun.body) databases.old) }
-    ensures fits { IfOk result (λ o. IfSome o (λ tx.
-        FitsWhole (part_of (scope_of_scripted begun.body) databases.old) begun.body)) }
-    ensures unfit { IfOk result (λ o. IfNone o
-        (FitsWhole (part_of (scope_of_scripted begun.body) databases.old) begun.body → ⊥)) }
 {
     let parts = begun.into_parts();
     let (version, stores) = databases.take(parts.mode, parts.schema.name(), &parts.names)?;
-    match fitting(alloc, parts.mode, &parts.schema, version, stores)? {
-        Some(stores) => {
-            let tx = running(alloc, number, parts, version, stores)?;
-            return Ok(Some(tx));
-        }
-        None => return Ok(None),
-    }
+    let tx = running(alloc, number, parts, version, stores)?;
+    Ok(tx)
 }
 
 /// The transaction on its part of the databases.
@@ -95,7 +54,8 @@ fn running<T: Tables>(
 ) -> Result<SessionTx<T>, NoMemory>
     requires placed { Becomes (new_front parts.mode parts.schema parts.names) parts.front }
     requires none { version ≡ None → stores ≡ finite.empty }
-    requires fits { IsMadeBy parts.mode parts.schema (database_at version stores) }
+    requires fits { FitsWhole (database_at version stores)
+        (scripted_body parts.mode parts.schema parts.names parts.front parts.threw) }
     ensures { IfOk result (λ tx. tx ≡ record {
       number = number;
       body = scripted_body parts.mode parts.schema parts.names parts.front parts.threw;

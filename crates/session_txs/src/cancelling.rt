@@ -1,5 +1,7 @@
 // A transaction that its body aborted.
-ghost use Rattle.std.specs.Prelude.{◌≡◌, is_some, IfOk};
+ghost use Rattle.std.specs.Prelude.{◌≡◌, is_some, IfOk, OnOk};
+ghost use Rattle.request_lists.specs.Fronts.{new_front};
+ghost use Rattle.request_lists.specs.Placing.{Becomes};
 ghost use Rattle.serial_order.specs.FinishEntries.{front_left};
 ghost use Rattle.serial_order.specs.SerialRuns.{is_aborted_phase};
 ghost use Rattle.session_txs.specs.Running.{EndsIfAborted};
@@ -24,6 +26,8 @@ pub fn cancel_begun(
 ) -> Result<Option<Outcome>, NoMemory>
     ensures some { IfOk result (λ o. is_some o ≡ is_aborted_phase (front_left begun.body).phase) }
     ensures cancelled { IfOk result (λ o. EndsIfAborted begun.body o notes.old notes.new) }
+    ensures placed { OnOk result
+        (Becomes (new_front begun.body.mode begun.body.schema begun.body.names) begun.body.front) }
 {
     attending_laws::<ScriptHandler>();
     let BegunParts {

@@ -1,5 +1,5 @@
 // A transaction of a session that runs.
-ghost use Rattle.std.specs.Prelude.{◌≡◌, ◌≢◌, None, Some, true, not, is_some, IfOk};
+ghost use Rattle.std.specs.Prelude.{◌≡◌, ◌≢◌, None, Some, true, not, is_some, length, IfOk};
 ghost use Rattle.request_lists.specs.Fronts.{is_read_only_mode};
 ghost use Rattle.list_machine.specs.declared.steps.Step.TheVariants as steps;
 ghost use Rattle.serial_order.specs.SerialRuns.{schema_kept};
@@ -79,6 +79,13 @@ impl<T: Tables> SessionTx<T> {
         ensures { result ≡ not (is_read_only_mode self.now.body.mode) }
     {
         !matches!(self.mode, Mode::ReadOnly)
+    }
+
+    /// How many turns it had.
+    pub fn turn_count(&self) -> usize
+        ensures { result ≡ length self.now.turns }
+    {
+        self.turns.len()
     }
 
     /// One turn: the first entry that waits is run, and its handler called (Indexed Database API 3.0, "transaction lifetime").

@@ -10,7 +10,7 @@ pub new-live-requires-after_bounds : goal.new-live-requires-after_bounds
 new-live-requires-after_bounds g c κs within = ready_as c.args.parts.mode c.args.parts.schema c.args.parts.names c.args.parts.front c.requires.placed (database_at c.args.version c.args.stores) c.args.parts.threw
     c.left_front-front.result c.new-course.result c.in_ok-changes.changes c.left_front-front.ensures
     (c.new-course.ensures ∙ ap (λ (l : LiveData). course_opened c.args.parts.mode c.args.parts.schema l c.in_ok-changes.changes) c.new-stores.ensures) c.in_ok-changes.ensures
-    (c.live_laws.ensures.body c.args.parts.mode c.args.parts.schema c.args.parts.names (database_at c.args.version c.args.stores) c.args.parts.front c.requires.placed c.requires.fits.sound c.requires.fits.shows c.requires.fits.raised)
+    (c.live_laws.ensures.body c.args.parts.mode c.args.parts.schema c.args.parts.names (database_at c.args.version c.args.stores) c.args.parts.front c.requires.placed c.requires.fits.schema c.requires.fits.shows c.requires.fits.raised)
 
 pub invariant_of-result : goal.invariant_of-result
 invariant_of-result g c = running_seen c.args.parts.mode c.args.parts.schema c.args.parts.names c.args.parts.front c.args.version c.args.stores c.args.parts.threw c.requires.placed c.requires.fits
