@@ -4,7 +4,7 @@
 --     line_of               the line on standard error; where the report is written there is none
 use Rattle.std.specs.Prelude.{ℕ, List, [], ◌++◌, codes, decimal, ⊤}
 use Rattle.script_runner.specs.declared.status.Status.{Status}
-use Rattle.script_runner.specs.declared.status.Status.TheVariants.{Done, Usage, TooLong, BadScript, ReadFault, WriteFault, NoMemory, NotBuilt, Stuck}
+use Rattle.script_runner.specs.declared.status.Status.TheVariants.{Done, Usage, TooLong, BadScript, ReadFault, WriteFault, NoMemory, NotBuilt}
 
 abbrev pub IsUnwritten : Status → Type 0
 IsUnwritten Done = ⊥
@@ -15,7 +15,6 @@ IsUnwritten ReadFault = ⊤
 IsUnwritten WriteFault = ⊥
 IsUnwritten NoMemory = ⊤
 IsUnwritten NotBuilt = ⊤
-IsUnwritten Stuck = ⊤
 
 abbrev pub number_of : Status → ℕ
 number_of Done = 0
@@ -26,7 +25,6 @@ number_of ReadFault = 5
 number_of WriteFault = 6
 number_of NoMemory = 9
 number_of NotBuilt = 11
-number_of Stuck = 15
 
 abbrev pub line_of : Status → List ℕ
 line_of Done = []
@@ -37,4 +35,3 @@ line_of ReadFault = codes "idbrun: read fault"
 line_of WriteFault = codes "idbrun: write fault"
 line_of NoMemory = codes "idbrun: no memory"
 line_of NotBuilt = codes "idbrun: not built"
-line_of Stuck = codes "idbrun: stuck"

@@ -1,5 +1,5 @@
 // Runs a session and writes its report to a sink.
-ghost use Rattle.std.specs.Prelude.{◌≡◌, ◌≤◌, ◌⊎◌, OnOk, IsErrOf};
+ghost use Rattle.std.specs.Prelude.{◌≡◌, ◌≤◌, OnOk, IsErrOf};
 ghost use Rattle.std.specs.FinMap as finite;
 ghost use Rattle.std.specs.Io.KnownBytes.{Appends};
 ghost use Rattle.edge_traits.specs.Faults.{Rose};
@@ -12,7 +12,7 @@ ghost use Rattle.legal_sessions.specs.Legal.{IsLegalReport};
 use edge_traits::{Gate, Sink, write_all};
 use report_lines::report_text;
 use script_statements::ScriptSession;
-use session_driver::{SessionError, run_session};
+use session_driver::run_session;
 use std::alloc::Global;
 use store_tables::LeafTables;
 
@@ -21,7 +21,6 @@ use store_tables::LeafTables;
 pub(crate) enum NoReport {
     WriteFault,
     NoMemory,
-    Stuck,
 }
 
 /// Runs the session, with the gate told of each request, and then writes the text of its report. Nothing is written before the session has ended.
@@ -38,14 +37,12 @@ pub(crate) fn write_report<K: Sink, G: Gate>(
         × IsLegalReport session 1 finite.empty report closing
         × AppendsFront (K.held sink.old) (K.held sink.new) (text_of_report report) }
     ensures fault { IsErrOf result NoReport.WriteFault → Rose (K.faults sink.old) (K.faults sink.new) }
-    ensures unwritten { (IsErrOf result NoReport.NoMemory) ⊎ (IsErrOf result NoReport.Stuck)
-        → sink.new ≡ sink.old }
+    ensures unwritten { IsErrOf result NoReport.NoMemory → sink.new ≡ sink.old }
     ensures count { K.faults sink.old ≤ K.faults sink.new }
 {
     let report = match run_session::<LeafTables, G>(alloc, gate, session, 1) {
         Ok(report) => report,
-        Err(SessionError::NoMemory) => return Err(NoReport::NoMemory),
-        Err(SessionError::Stuck) => return Err(NoReport::Stuck),
+        Err(_) => return Err(NoReport::NoMemory),
     };
     let text = match report_text(alloc, &report) {
         Ok(text) => text,

@@ -49,7 +49,7 @@ fn usage(alloc: Global) -> Status
 /// `sink`, in one piece.
 ///
 /// Refusals come in this order: `Usage`, before anything is read; `ReadFault` or `TooLong`, whichever is met first while reading;
-/// `BadScript`; `NotBuilt`; `WriteFault`. The disk is handed back as it came. That `Stuck` never comes isn't proved.
+/// `BadScript`; `NotBuilt`; `WriteFault`. The disk is handed back as it came.
 pub fn run_words<R: Threads + Wait + Sync, S: Source, K: Sink, D, G: Gate + Sync>(
     rt: &R,
     alloc: Global,
@@ -85,8 +85,6 @@ pub fn run_words<R: Threads + Wait + Sync, S: Source, K: Sink, D, G: Gate + Sync
         × IsOfOthers script }
     ensures read_cause { result.status ≡ Status.ReadFault → Rose (S.faults source.old) (S.faults source.new) }
     ensures write_cause { result.status ≡ Status.WriteFault → Rose (K.faults sink.old) (K.faults sink.new) }
-    ensures stuck { result.status ≡ Status.Stuck → (session : ScriptSession)
-        × ReadsAs (S.left source.old) (S.left source.new) (Ok (one_session session)) }
 
     // Other words come to nothing else, and nothing is read then.
     ensures refused { (IsRun words.now → ⊥) → (result.status ≡ Status.Usage usage_text)
@@ -97,8 +95,7 @@ pub fn run_words<R: Threads + Wait + Sync, S: Source, K: Sink, D, G: Gate + Sync
     ensures complete { IsRun words.now → (input : List ℕ) → S.left source.old ≡ Some input
         → (Rose (S.faults source.old) (S.faults source.new) → ⊥)
         → (Rose (K.faults sink.old) (K.faults sink.new) → ⊥)
-        → (result.status ≡ due_of input) ⊎ (result.status ≡ Status.NoMemory)
-        ⊎ ((result.status ≡ Status.Stuck) × (due_of input ≡ Status.Done)) }
+        → (result.status ≡ due_of input) ⊎ (result.status ≡ Status.NoMemory) }
 
     ensures unwritten { IsUnwritten result.status → sink.new ≡ sink.old }
     ensures taken { ConsumesAtMost (S.left source.old) (S.left source.new) (MOST_SCRIPT_BYTES + 1) }
@@ -146,10 +143,6 @@ pub fn run_words<R: Threads + Wait + Sync, S: Source, K: Sink, D, G: Gate + Sync
         },
         Err(NoReport::NoMemory) => Ended {
             status: Status::NoMemory,
-            disk,
-        },
-        Err(NoReport::Stuck) => Ended {
-            status: Status::Stuck,
             disk,
         },
     }

@@ -25,8 +25,6 @@ pub enum Status {
     NoMemory,
     /// The script has more than one session.
     NotBuilt,
-    /// The session came to a state in which its driver can't go on. No script is known that comes there; that none does isn't proved.
-    Stuck,
 }
 
 impl Status {
@@ -43,7 +41,6 @@ impl Status {
             Status::WriteFault => 6,
             Status::NoMemory => 9,
             Status::NotBuilt => 11,
-            Status::Stuck => 15,
         }
     }
 
@@ -74,7 +71,6 @@ impl fmt::Display for Status {
             Status::WriteFault => write!(f, "idbrun: write fault"),
             Status::NoMemory => write!(f, "idbrun: no memory"),
             Status::NotBuilt => write!(f, "idbrun: not built"),
-            Status::Stuck => write!(f, "idbrun: stuck"),
         }
     }
 }

@@ -2,12 +2,10 @@
 --     leads_still, leads_again      by none, and by several
 --     task_keeps, event_keeps       it runs a task, and takes an event
 --     start_leads, turn_leads, finish_leads, cancel_leads   a transaction starts, has a turn, and finishes
-use Rattle.std.proofs.Common.{◌≡◌, ◌≢◌, ℕ, ◌+◌, Bool, true, false, ◌&&◌, List, [], ◌∷◌, ◌++◌, map, slice_get, slice_set, if◌then◌else◌, Option, Some, None, refl, sym, ◌∙◌, ap, subst}
+use Rattle.std.proofs.Common.{◌≡◌, ◌≤◌, ℕ, Bool, true, false, ◌&&◌, List, [], ◌∷◌, ◌++◌, map, slice_set, if◌then◌else◌, Option, Some, None, refl, sym, ◌∙◌, ap, subst, arith}
 use Rattle.idb_schema.specs.Schemas.{SchemaData}
 use Rattle.idb_calls.specs.Deltas.{DeltaTree}
 use Rattle.idb_calls.specs.declared.traces.Outcome.{Outcome}
-use Rattle.idb_calls.specs.declared.traces.Outcome.TheVariants.{Committed, Aborted}
-use Rattle.name_queues.specs.declared.events.ClientEvent.{ClientEvent}
 use Rattle.idb_desk.specs.declared.steps.DeskStep.TheVariants as step
 use Rattle.idb_desk.specs.Steps.{DeskRun, desk_run, IsDeskRun}
 use Rattle.item_changes.specs.Items.{Items}
@@ -16,30 +14,29 @@ use Rattle.item_changes.specs.Scopes.{part_of}
 use Rattle.serial_order.specs.FinishEntries.{TxBody, Scripted, Deletion, FinishEntry, scope_of_body, did_commit, changes_kept}
 use Rattle.serial_order.specs.SerialRuns.{joined_lines, RunsOn, NeverStarts}
 use Rattle.script_statements.specs.declared.script.Block.{Block as Named}
-use Rattle.script_statements.specs.declared.script.Client.{Client}
 use Rattle.script_statements.specs.declared.script.ScriptSession.{ScriptSession}
 use Rattle.script_runs.specs.declared.notes.Note.{Note}
-use Rattle.script_runs.specs.declared.notes.Task.{Task}
 use Rattle.script_handlers.specs.Handling.{Script, ScriptReacts, ScriptWrites}
 use Rattle.client_machine.specs.Acts.{Told, Act, Makes, TakesTurn, notes_of_acts}
 use Rattle.client_machine.specs.Answering.{MadeAtOnce, told_by}
-use Rattle.client_machine.specs.ClientStates.{ClientTx, ClientState, tx_at, without_tx, with_started, with_notes}
-use Rattle.client_machine.specs.ClientSteps.{Meets, EndsTx, may_begin, with_tasks}
+use Rattle.client_machine.specs.ClientStates.{ClientTx, tx_at, without_tx, with_notes}
+use Rattle.client_machine.specs.ClientSteps.{Meets, EndsTx, with_tasks}
 use Rattle.client_machine.specs.TaskRuns.{RunsNow}
-use Rattle.client_seats.specs.Seating.{IsSeated}
 use Rattle.client_ties.specs.Unfinished.{least_of}
 use Rattle.legal_sessions.specs.SerialResults.{number_of_entry}
 use Rattle.legal_sessions.specs.Legal.{is_in_doubt, may_write, commits_of}
 use Rattle.session_states.specs.Sessions.{SeatNow, SessionNow, with_seat, with_finished}
 use Rattle.session_states.specs.Telling.{RunningTx}
-use Rattle.session_states.specs.UnderWay.{IsUnderWay}
 use Rattle.session_states.specs.Moves.{Moves, entry_ran, entry_dropped}
 use Rattle.task_statements.specs.Offices.{OfficeState}
-use Rattle.client_tasks.specs.Between.{ActsBetween}
 use Rattle.client_tasks.specs.Steps.{RunsTaskInto, TakesEventInto, StartsInto, TurnInto, FinishesInto, FinishesUnstartedInto, told_take}
+use Rattle.session_facts.specs.Showing.{IsSoundKept}
 use Rattle.session_driver.specs.declared.finished.Finished.{Finished}
-use Rattle.session_driver.specs.Scenes.{Scene, scene_of, seat_on, IsSceneAt, with_scene, LeadsTo, KeepsOn, commit_numbers, with_finish_of}
+use Rattle.session_driver.specs.Scenes.{Scene, IsDriven, scene_of, seat_on, IsSceneAt, with_scene, LeadsTo, KeepsOn, commit_numbers, with_finish_of}
 use Rattle.session_driver.specs.Running.{begun_run, one_turn_more, left_items}
+use Rattle.session_driver.specs.Measures.{tasks_left}
+use Rattle.session_driver.proofs.Laws.{TaskLaw, EventLaw, StartLaw, TurnLaw, FinishLaw, CancelLaw}
+use Rattle.session_driver.proofs.Lessening.{posted_left, ends_left, left_same, left_still, task_less, event_more, lt_le}
 use Rattle.session_driver.proofs.Places.{get_here, set_same, set_twice}
 
 -- ---- by none, and by several
@@ -49,8 +46,7 @@ parts_of now = record { run = now.run; seats = now.seats; finish = now.finish; c
 pub leads_still : (s : Scene) (running : Option RunningTx) → LeadsTo running running s s
 leads_still s running = record {
   blocks = refl;
-  number = refl;
-  others = λ c out sits. sits;
+  less = left_still s.office.client s.office.client s.notes s.notes refl refl;
   leads = λ session opening now place at u.
       let seats : slice_set now.seats place (seat_on s) ≡ now.seats = set_same now.seats place (seat_on s) at.seat_at in
       let run = at.run in
@@ -58,14 +54,13 @@ leads_still s running = record {
       let commits = at.commits in
       let items = at.items in
       let same : parts_of now ≡ with_scene place s now = cc in
-      subst (λ (n : SessionNow). IsUnderWay session opening n running) same u;
+      subst (λ (n : SessionNow). IsDriven session opening n running) same u;
 }
 
 pub leads_again : (running between next : Option RunningTx) (s mid last : Scene) → LeadsTo running between s mid → LeadsTo between next mid last → LeadsTo running next s last
 leads_again running between next s mid last a b = record {
   blocks = b.blocks ∙ a.blocks;
-  number = b.number ∙ a.number;
-  others = λ c out sits. b.others c (λ e. out (e ∙ a.number)) (a.others c out sits);
+  less = over b.less a.less;
   leads = λ session opening now place at u.
       let mid_at : IsSceneAt session (with_scene place mid now) place mid = record {
         script = at.script;
@@ -79,9 +74,12 @@ leads_again running between next s mid last a b = record {
       } in
       let seats : slice_set (slice_set now.seats place (seat_on mid)) place (seat_on last) ≡ slice_set now.seats place (seat_on last) = set_twice now.seats place (seat_on mid) (seat_on last) in
       let same : with_scene place last (with_scene place mid now) ≡ with_scene place last now = cc in
-      subst (λ (n : SessionNow). IsUnderWay session opening n next) same
+      subst (λ (n : SessionNow). IsDriven session opening n next) same
       (b.leads session opening (with_scene place mid now) place mid_at (a.leads session opening now place at u));
 }
+  where
+    over : {m n o : ℕ} → m ≤ n → n ≤ o → m ≤ o
+    over p q = omega (arith, p, q)
 
 -- ---- the moves of a client
 abbrev seat_in : OfficeState → List Note → SeatNow
@@ -101,25 +99,16 @@ moves_at session now place old new before after acts done items at made run line
 -- nothing else of the session changed
 left_so : (session : ScriptSession) (opening : Items) (now : SessionNow) (next : Option RunningTx) (place : ℕ) (new : OfficeState) (after : List Note) (done : Finished) (items : Items)
     → now.finish ≡ done.finish → now.commits ≡ done.commits → now.items ≡ items
-    → IsUnderWay session opening (with_seat place new.run (seat_in new after) now) next → IsUnderWay session opening (with_scene place (scene_of new after done items) now) next
+    → IsDriven session opening (with_seat place new.run (seat_in new after) now) next → IsDriven session opening (with_scene place (scene_of new after done items) now) next
 left_so session opening now next place new after done items finish commits same_items u =
     let same : with_seat place new.run (seat_in new after) now ≡ with_scene place (scene_of new after done items) now = cc in
-    subst (λ (n : SessionNow). IsUnderWay session opening n next) same u
+    subst (λ (n : SessionNow). IsDriven session opening n next) same u
 
-abbrev pub OthersLaw : Type 0
-OthersLaw = (c : ClientState) (client : ℕ) (r last : DeskRun) (acts : List Act) → c.number ≢ client → IsSeated c r → MadeAtOnce client r acts last → IsSeated c last
-
-abbrev pub TaskLaw : Type 0
-TaskLaw = (session : ScriptSession) (opening : Items) (now : SessionNow) (running : Option RunningTx) (place : ℕ) (script : Client) (before seat : SeatNow) (acts : List Act) (r : DeskRun) (task : Task) (tasks : List Task)
-    → IsUnderWay session opening now running → Moves session now place script before acts r seat → before.client.tasks ≡ task ∷ tasks
-    → RunsNow script.blocks (with_tasks before.client tasks) task.env (Some task.block) acts seat.client → IsUnderWay session opening (with_seat place r seat now) running
-
-pub task_keeps : OthersLaw → TaskLaw → (old new : OfficeState) (before after : List Note) → RunsTaskInto old before new after → IsDeskRun new.run → KeepsOn old before new after
-task_keeps others law old new before after t run = record {
+pub task_keeps : TaskLaw → (old new : OfficeState) (before after : List Note) → RunsTaskInto old before new after → IsDeskRun new.run → KeepsOn old before new after
+task_keeps law old new before after t run = record {
   goes = λ running done items. record {
     blocks = t.follows.blocks;
-    number = t.follows.number;
-    others = λ c out sits. others c old.client.number old.run new.run t.acts out sits t.follows.made;
+    less = lt_le (task_less old new before after t);
     leads = λ session opening now place at u.
         left_so session opening now running place new after done items at.finish at.commits at.items
         (law session opening now running place at.script (seat_in old before) (seat_in new after) t.acts new.run t.task t.tasks u
@@ -128,19 +117,13 @@ task_keeps others law old new before after t run = record {
   };
 }
 
-abbrev pub EventLaw : Type 0
-EventLaw = (session : ScriptSession) (opening : Items) (now : SessionNow) (running : Option RunningTx) (place : ℕ) (script : Client) (before seat : SeatNow) (acts : List Act) (r : DeskRun) (e : ClientEvent) (told : Told)
-    → IsUnderWay session opening now running → Moves session now place script before (Makes (step.Takes before.client.number) told ∷ acts) r seat → before.client.tasks ≡ [] → told.event ≡ Some e
-    → Meets script.blocks told before.client e acts seat.client → IsUnderWay session opening (with_seat place r seat now) running
-
-pub event_keeps : OthersLaw → EventLaw → (old new : OfficeState) (before after : List Note) → TakesEventInto old before new after → IsDeskRun new.run → KeepsOn old before new after
-event_keeps others law old new before after t run =
+pub event_keeps : EventLaw → (old new : OfficeState) (before after : List Note) → TakesEventInto old before new after → IsDeskRun new.run → KeepsOn old before new after
+event_keeps law old new before after t run =
     let acts : List Act = Makes (step.Takes old.client.number) (told_take old) ∷ t.acts in
     record {
       goes = λ running done items. record {
         blocks = t.follows.blocks;
-        number = t.follows.number;
-        others = λ c out sits. others c old.client.number old.run new.run acts out sits t.follows.made;
+        less = event_more old new before after t;
         leads = λ session opening now place at u.
             left_so session opening now running place new after done items at.finish at.commits at.items
             (law session opening now running place at.script (seat_in old before) (seat_in new after) t.acts new.run t.event (told_take old) u
@@ -157,44 +140,30 @@ no_more (x ∷ xs) = ap (λ ys. x ∷ ys) (no_more xs)
 least_there : (r q : DeskRun) (number : ℕ) → r ≡ q → least_of (desk_run q) ≡ Some number → least_of (desk_run r) ≡ Some number
 least_there r q number same least = ap (λ (x : DeskRun). least_of (desk_run x)) same ∙ least
 
-abbrev pub StartLaw : Type 0
-StartLaw = (session : ScriptSession) (opening : Items) (now : SessionNow) (place : ℕ) (script : Client) (before seat : SeatNow) (r : DeskRun) (number : ℕ) (told : Told) (tx : ClientTx)
-    → IsUnderWay session opening now None → Moves session now place script before (Makes (step.Starts before.client.number number) told ∷ []) r seat → least_of (desk_run now.run) ≡ Some number → before.client.tasks ≡ []
-    → tx_at before.client number ≡ Some tx → tx.started ≡ false → may_begin tx.body ≡ true → seat.client ≡ with_started before.client number
-    → IsUnderWay session opening (with_seat place r seat now) (Some (record { number = number; body = tx.body; turns = [] }))
-
-pub start_leads : OthersLaw → StartLaw → (number : ℕ) (old new : OfficeState) (notes : List Note) (body : TxBody Script) (done : Finished) (items : Items)
+pub start_leads : StartLaw → (number : ℕ) (old new : OfficeState) (notes : List Note) (body : TxBody Script) (done : Finished) (items : Items)
     → StartsInto number old body new → IsDeskRun new.run → least_of (desk_run old.run) ≡ Some number
     → LeadsTo None (Some (begun_run number body)) (scene_of old notes done items) (scene_of new notes done items)
-start_leads others law number old new notes body done items t run least =
+start_leads law number old new notes body done items t run least =
     let told : Told = told_by (desk_run old.run) (step.Starts old.client.number number) in
     let acts : List Act = Makes (step.Starts old.client.number number) told ∷ [] in
     record {
       blocks = t.follows.blocks;
-      number = t.follows.number;
-      others = λ c out sits. others c old.client.number old.run new.run acts out sits t.follows.made;
+      less = left_same old.client new.client notes notes [] (ap tasks_left t.client) (no_more notes);
       leads = λ session opening now place at u.
           left_so session opening now (Some (begun_run number body)) place new notes done items at.finish at.commits at.items
-          (subst (λ (b : TxBody Script). IsUnderWay session opening (with_seat place new.run (seat_in new notes) now) (Some (begun_run number b))) (sym t.given)
+          (subst (λ (b : TxBody Script). IsDriven session opening (with_seat place new.run (seat_in new notes) now) (Some (begun_run number b))) (sym t.given)
           (law session opening now place at.script (seat_in old notes) (seat_in new notes) new.run number told t.tx u
           (moves_at session now place old new notes notes acts done items at t.follows.made run (no_more notes)) (least_there now.run old.run number at.run least) t.idle t.found t.waits t.begins t.client));
     }
 
-abbrev pub TurnLaw : Type 0
-TurnLaw = (session : ScriptSession) (opening : Items) (now : SessionNow) (t : RunningTx) (place : ℕ) (script : Client) (before seat : SeatNow) (r : DeskRun) (notes : List Note) (tx : ClientTx)
-    → IsUnderWay session opening now (Some t) → Moves session now place script before (TakesTurn t.number notes ∷ []) r seat → before.client.tasks ≡ []
-    → tx_at before.client t.number ≡ Some tx → tx.started ≡ true → seat.client ≡ with_notes before.client notes
-    → IsUnderWay session opening (with_seat place r seat now) (Some (record t { turns = t.turns ++ notes ∷ [] }))
-
-pub turn_leads : OthersLaw → TurnLaw → (t : RunningTx) (old new : OfficeState) (before lines : List Note) (done : Finished) (items : Items)
+pub turn_leads : TurnLaw → (t : RunningTx) (old new : OfficeState) (before lines : List Note) (done : Finished) (items : Items)
     → TurnInto t.number old lines new → IsDeskRun new.run
     → LeadsTo (Some t) (Some (one_turn_more t lines)) (scene_of old before done items) (scene_of new (before ++ lines) done items)
-turn_leads others law t old new before lines done items h run =
+turn_leads law t old new before lines done items h run =
     let acts : List Act = TakesTurn t.number lines ∷ [] in
     record {
       blocks = h.follows.blocks;
-      number = h.follows.number;
-      others = λ c out sits. others c old.client.number old.run new.run acts out sits h.follows.made;
+      less = left_same old.client new.client before (before ++ lines) lines (ap tasks_left h.client ∙ posted_left lines old.client) refl;
       leads = λ session opening now place at u.
           left_so session opening now (Some (one_turn_more t lines)) place new (before ++ lines) done items at.finish at.commits at.items
           (law session opening now t place at.script (seat_in old before) (seat_in new (before ++ lines)) new.run lines h.tx u
@@ -208,43 +177,32 @@ commits_so false commits e = sym (no_more commits)
 
 finished_so : (session : ScriptSession) (opening : Items) (now : SessionNow) (place : ℕ) (new : OfficeState) (after : List Note) (done : Finished) (items : Items) (e : FinishEntry Script Note) (left : Items) (b : Bool)
     → now.finish ≡ done.finish → now.commits ≡ done.commits → (did_commit e.outcome && may_write e.body) ≡ b → applied_all now.items (changes_kept e) ≡ left
-    → IsUnderWay session opening (with_finished e (with_seat place new.run (seat_in new after) now)) None
-    → IsUnderWay session opening (with_scene place (scene_of new after (with_finish_of done e.number b) left) now) None
+    → IsDriven session opening (with_finished e (with_seat place new.run (seat_in new after) now)) None
+    → IsDriven session opening (with_scene place (scene_of new after (with_finish_of done e.number b) left) now) None
 finished_so session opening now place new after done items e left b finish commits writes same_items u =
     let finish_is : now.finish ++ e.number ∷ [] ≡ done.finish ++ e.number ∷ [] = ap (λ ns. ns ++ e.number ∷ []) finish in
     let commits_is : now.commits ++ map number_of_entry (commits_of (e ∷ [])) ≡ commit_numbers done.commits e.number b =
     commits_so (did_commit e.outcome && may_write e.body) now.commits e ∙ ap (commit_numbers now.commits e.number) writes ∙ ap (λ ns. commit_numbers ns e.number b) commits in
     let same : with_finished e (with_seat place new.run (seat_in new after) now) ≡ with_scene place (scene_of new after (with_finish_of done e.number b) left) now = cc in
-    subst (λ (n : SessionNow). IsUnderWay session opening n None) same u
+    subst (λ (n : SessionNow). IsDriven session opening n None) same u
 
-abbrev pub FinishLaw : Type 0
-FinishLaw = (session : ScriptSession) (opening : Items) (now : SessionNow) (t : RunningTx) (place : ℕ) (script : Client) (before seat : SeatNow) (acts : List Act) (r : DeskRun) (told : Told) (tx : ClientTx)
-    (outcome : Outcome) (kept : Option SchemaData) (changes : List DeltaTree)
-    → IsUnderWay session opening now (Some t) → Moves session now place script before (Makes (step.Leaves before.client.number t.number outcome kept) told ∷ acts) r seat
-    → before.client.tasks ≡ [] → tx_at before.client t.number ≡ Some tx → tx.started ≡ true
-    → EndsTx script.blocks (without_tx before.client t.number) t.number outcome tx.kind acts seat.client
-    → RunsOn ScriptReacts ScriptWrites (part_of (scope_of_body t.body) now.items) t.body t.turns changes kept false outcome
-    → is_in_doubt outcome ≡ false
-    → IsUnderWay session opening (with_finished (entry_ran t changes kept outcome) (with_seat place r seat now)) None
-
-pub finish_leads : OthersLaw → FinishLaw → (t : RunningTx) (outcome : Outcome) (kept : Option SchemaData) (changes : List DeltaTree) (old new : OfficeState) (before after : List Note) (done : Finished) (items : Items)
+pub finish_leads : FinishLaw → (t : RunningTx) (outcome : Outcome) (kept : Option SchemaData) (changes : List DeltaTree) (old new : OfficeState) (before after : List Note) (done : Finished) (items : Items)
     → FinishesInto t.number outcome kept old before new after → IsDeskRun new.run
-    → RunsOn ScriptReacts ScriptWrites (part_of (scope_of_body t.body) items) t.body t.turns changes kept false outcome → is_in_doubt outcome ≡ false
+    → RunsOn ScriptReacts ScriptWrites (part_of (scope_of_body t.body) items) t.body t.turns changes kept false outcome → is_in_doubt outcome ≡ false → IsSoundKept kept
     → LeadsTo (Some t) None (scene_of old before done items) (scene_of new after (with_finish_of done t.number (did_commit outcome && may_write t.body)) (left_items items outcome changes))
-finish_leads others law t outcome kept changes old new before after done items f run ran sure =
+finish_leads law t outcome kept changes old new before after done items f run ran sure sound =
     let told : Told = told_by (desk_run old.run) (step.Leaves old.client.number t.number outcome kept) in
     let acts : List Act = Makes (step.Leaves old.client.number t.number outcome kept) told ∷ f.acts in
     record {
       blocks = f.follows.blocks;
-      number = f.follows.number;
-      others = λ c out sits. others c old.client.number old.run new.run acts out sits f.follows.made;
+      less = left_same old.client new.client before after (notes_of_acts acts) (ends_left old.blocks (without_tx old.client t.number) t.number outcome f.tx.kind f.acts new.client f.ends) f.follows.lines;
       leads = λ session opening now place at u.
           finished_so session opening now place new after done items (entry_ran t changes kept outcome) (left_items items outcome changes) (did_commit outcome && may_write t.body) at.finish at.commits refl
           (ap (λ (is : Items). applied_all is (if did_commit outcome then changes else [])) at.items)
           (law session opening now t place at.script (seat_in old before) (seat_in new after) f.acts new.run told f.tx outcome kept changes u
           (moves_at session now place old new before after acts done items at f.follows.made run f.follows.lines) f.idle f.found f.ran
           (subst (λ (bs : List Named). EndsTx bs (without_tx old.client t.number) t.number outcome f.tx.kind f.acts new.client) at.blocks f.ends)
-          (subst (λ (is : Items). RunsOn ScriptReacts ScriptWrites (part_of (scope_of_body t.body) is) t.body t.turns changes kept false outcome) (sym at.items) ran) sure);
+          (subst (λ (is : Items). RunsOn ScriptReacts ScriptWrites (part_of (scope_of_body t.body) is) t.body t.turns changes kept false outcome) (sym at.items) ran) sure sound);
     }
 
 -- ---- without starting
@@ -263,28 +221,18 @@ keeps_none false items = refl
 some_tx : (a b : ClientTx) → Some a ≡ Some b → a ≡ b
 some_tx a b e = cc
 
-abbrev pub CancelLaw : Type 0
-CancelLaw = (session : ScriptSession) (opening : Items) (now : SessionNow) (place : ℕ) (script : Client) (before seat : SeatNow) (acts : List Act) (r : DeskRun) (told : Told) (tx : ClientTx)
-    (number : ℕ) (turns : List (List Note)) (outcome : Outcome) → IsUnderWay session opening now None
-    → Moves session now place script before (map (TakesTurn number) turns ++ Makes (step.Leaves before.client.number number outcome None) told ∷ acts) r seat
-    → least_of (desk_run now.run) ≡ Some number → before.client.tasks ≡ [] → tx_at before.client number ≡ Some tx → tx.started ≡ false
-    → EndsTx script.blocks (with_notes (without_tx before.client number) (joined_lines turns)) number outcome tx.kind acts seat.client
-    → NeverStarts ScriptReacts ScriptWrites tx.body turns [] None false outcome
-    → IsUnderWay session opening (with_finished (entry_dropped number tx.body turns outcome) (with_seat place r seat now)) None
-
-pub cancel_leads : OthersLaw → CancelLaw → (number : ℕ) (turns : List (List Note)) (outcome : Outcome) (tx : ClientTx) (old new : OfficeState) (before after : List Note) (done : Finished) (items : Items)
+pub cancel_leads : CancelLaw → (number : ℕ) (turns : List (List Note)) (outcome : Outcome) (tx : ClientTx) (old new : OfficeState) (before after : List Note) (done : Finished) (items : Items)
     → FinishesUnstartedInto number turns outcome old before new after → IsDeskRun new.run → least_of (desk_run old.run) ≡ Some number → tx_at old.client number ≡ Some tx
     → NeverStarts ScriptReacts ScriptWrites tx.body turns [] None false outcome
     → LeadsTo None None (scene_of old before done items) (scene_of new after (with_finish_of done number false) items)
-cancel_leads others law number turns outcome tx old new before after done items f run least found never =
+cancel_leads law number turns outcome tx old new before after done items f run least found never =
     let told : Told = told_by (desk_run old.run) (step.Leaves old.client.number number outcome None) in
     let acts : List Act = map (TakesTurn number) turns ++ Makes (step.Leaves old.client.number number outcome None) told ∷ f.acts in
     let same : tx ≡ f.tx = some_tx tx f.tx (sym found ∙ f.found) in
     let never_so : NeverStarts ScriptReacts ScriptWrites f.tx.body turns [] None false outcome = subst (λ (x : ClientTx). NeverStarts ScriptReacts ScriptWrites x.body turns [] None false outcome) same never in
     record {
       blocks = f.follows.blocks;
-      number = f.follows.number;
-      others = λ c out sits. others c old.client.number old.run new.run acts out sits f.follows.made;
+      less = left_same old.client new.client before after (notes_of_acts acts) (ends_left old.blocks (with_notes (without_tx old.client number) (joined_lines turns)) number outcome f.tx.kind f.acts new.client f.ends ∙ posted_left (joined_lines turns) (without_tx old.client number)) f.follows.lines;
       leads = λ session opening now place at u.
           finished_so session opening now place new after done items (entry_dropped number f.tx.body turns outcome) items false at.finish at.commits
           (writes_none (did_commit outcome) (may_write f.tx.body) (never_commits f.tx.body turns outcome never_so))

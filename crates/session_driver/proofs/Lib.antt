@@ -1,6 +1,9 @@
 pub mod Places
 pub mod Listing
+pub mod Laws
+pub mod Lessening
 pub mod Leading
+pub mod Standing
 pub mod Turning
 pub mod Served
 pub mod Driving

@@ -1,7 +1,7 @@
 -- Lists that a loop makes.
 --     written_more, lines_end       the lines of notes, one note more;  and at their end
 --     seats_more            one client more in its seat
-use Rattle.std.proofs.Common.{◌≡◌, ℕ, zero, suc, ◌+◌, List, [], ◌∷◌, ◌++◌, length, map, refl, sym, ◌∙◌, ap, arith, append_assoc}
+use Rattle.std.proofs.Common.{◌≡◌, ℕ, ◌+◌, List, [], ◌∷◌, ◌++◌, length, map, refl, sym, ◌∙◌, ap, arith, append_assoc}
 use Rattle.std.proofs.lemmas.List.{map-append}
 use Rattle.report_lines.specs.declared.lines.Line.{Line}
 use Rattle.script_runs.specs.declared.notes.Note.{Note}

@@ -1,8 +1,8 @@
 -- Places in lists.
---     set_here, set_twice, set_same, get_here, get_there    an item that is set
+--     get_here, set_same, set_twice an item that is set
 --     put_back_is           an item that is taken out, and another that is put there
---     no_place              where no item passes a test
-use Rattle.std.proofs.Common.{◌≡◌, ◌≢◌, ℕ, zero, suc, ◌+◌, ◌<◌, ◌≤◌, Bool, true, false, not, cond, nat_lt, List, [], ◌∷◌, ◌++◌, length, map, take, drop, slice_get, slice_set, insert, remove, position, Option, Some, None, option_map, refl, sym, ◌∙◌, ap, subst, arith, inl, inr, ◌⊎◌, rules}
+--     no_place, place_found         where no item passes a test;  and where the first does
+use Rattle.std.proofs.Common.{◌≡◌, ℕ, zero, suc, ◌+◌, ◌<◌, Bool, true, false, not, cond, nat_lt, List, [], ◌∷◌, length, slice_get, slice_set, insert, remove, position, Some, None, refl, sym, ap, subst, arith}
 use Rattle.std.specs.List.{AllByRecursion, position_or_len}
 use Rattle.std.proofs.lemmas.Bool.Decides.{nat_tests}
 
@@ -10,13 +10,6 @@ pub get_here : {X : Type 0} (xs : List X) (place : ℕ) (x y : X) → slice_get 
 get_here [] place x y at = cc
 get_here (z ∷ zs) zero x y at = refl
 get_here (z ∷ zs) (suc place) x y at = get_here zs place x y at
-
-pub get_there : {X : Type 0} (xs : List X) (place other : ℕ) (y : X) → other ≢ place → slice_get (slice_set xs place y) other ≡ slice_get xs other
-get_there [] place other y out = refl
-get_there (z ∷ zs) zero zero y out = absurd (out refl)
-get_there (z ∷ zs) zero (suc other) y out = refl
-get_there (z ∷ zs) (suc place) zero y out = refl
-get_there (z ∷ zs) (suc place) (suc other) y out = get_there zs place other y (λ e. out (ap suc e))
 
 pub set_same : {X : Type 0} (xs : List X) (place : ℕ) (x : X) → slice_get xs place ≡ Some x → slice_set xs place x ≡ xs
 set_same [] place x at = refl
@@ -43,6 +36,16 @@ passes_none p (x ∷ xs) e = elim (p x) as (λ b. p x ≡ b → nat_lt (cond (no
   | false ↦ λ is k. (is, passes_none p xs (grind (arith, nat_tests, k)))
 ] refl e
 
+behind : (n : ℕ) → suc n ≡ 1 + n
+behind n = omega arith
+
+passes_one : {X : Type 0} (p : X → Bool) (xs : List X) → nat_lt (position_or_len p xs) (length xs) ≡ true → (x : X) × ((slice_get xs (position_or_len p xs) ≡ Some x) × (p x ≡ true))
+passes_one p [] e = absurd cc
+passes_one {X = X} p (x ∷ xs) e = elim (p x) as (λ b. p x ≡ b → nat_lt (cond (not b) (1 + position_or_len p xs) 0) (suc (length xs)) ≡ true → (y : X) × ((slice_get (x ∷ xs) (cond (not b) (1 + position_or_len p xs) 0) ≡ Some y) × (p y ≡ true))) [
+  | true ↦ λ is k. (x, (refl, is))
+  | false ↦ λ is k. subst (λ m. (y : X) × ((slice_get (x ∷ xs) m ≡ Some y) × (p y ≡ true))) (behind (position_or_len p xs)) (passes_one p xs (grind (arith, nat_tests, k)))
+] refl e
+
 pub no_place : {X : Type 0} (p : X → Bool) (xs : List X) → position p xs ≡ None → AllByRecursion (λ x. p x ≡ false) xs
 no_place p xs e = passes_none p xs (without (nat_lt (position_or_len p xs) (length xs)) (position_or_len p xs) e)
   where
@@ -50,9 +53,11 @@ no_place p xs e = passes_none p xs (without (nat_lt (position_or_len p xs) (leng
     without true n k = cc
     without false n k = refl
 
-pub place_within : {X : Type 0} (p : X → Bool) (xs : List X) (place : ℕ) → position p xs ≡ Some place → place < length xs
-place_within p xs place e = within (nat_lt (position_or_len p xs) (length xs)) refl e
+pub place_found : {X : Type 0} (p : X → Bool) (xs : List X) (place : ℕ) → position p xs ≡ Some place → (x : X) × ((slice_get xs place ≡ Some x) × (p x ≡ true))
+place_found {X = X} p xs place e = within (nat_lt (position_or_len p xs) (length xs)) refl e
   where
-    within : (b : Bool) → nat_lt (position_or_len p xs) (length xs) ≡ b → cond b (Some (position_or_len p xs)) None ≡ Some place → place < length xs
-    within true is k = let same : position_or_len p xs ≡ place = cc in grind (arith, nat_tests)
-    within false is k = cc
+    within : (b : Bool) → nat_lt (position_or_len p xs) (length xs) ≡ b → cond b (Some (position_or_len p xs)) None ≡ Some place → (x : X) × ((slice_get xs place ≡ Some x) × (p x ≡ true))
+    within true is k =
+        let same : position_or_len p xs ≡ place = cc in
+        subst (λ n. (x : X) × ((slice_get xs n ≡ Some x) × (p x ≡ true))) same (passes_one p xs is)
+    within false is k = absurd cc

@@ -1,3 +1,4 @@
+pub mod Measures
 pub mod Scenes
 pub mod Seats
 pub mod Choosing

@@ -5,7 +5,11 @@
 --     TurnLeads, EndLeads   what a turn leads to, whose handlers wrote these last of the notes;  and what its finish leads to
 --     RunsOnInto            it ran on, and its client with it
 --     HasSureEnd            it came to its end, and isn't in doubt
-use Rattle.std.specs.Prelude.{◌≡◌, ℕ, false, ◌&&◌, List, [], ◌∷◌, ◌++◌, Option, Some, None, if◌then◌else◌}
+--     FinishedWith          one more is noted as finished
+--     HoldsTx               the client has it, started
+--     HoldsBegun            it began with this body, and its client has no task
+--     WasAborted            it is due, and its body aborted it
+use Rattle.std.specs.Prelude.{◌≡◌, ◌<◌, ℕ, true, false, length, ◌&&◌, List, [], ◌∷◌, ◌++◌, Option, Some, None, if◌then◌else◌}
 use Rattle.idb_schema.specs.Schemas.{SchemaData}
 use Rattle.idb_calls.specs.Deltas.{DeltaTree}
 use Rattle.idb_calls.specs.declared.traces.Outcome.{Outcome}
@@ -16,11 +20,15 @@ use Rattle.serial_order.specs.FinishEntries.{TxBody, Scripted, scope_of_body, di
 use Rattle.serial_order.specs.SerialRuns.{RunsOn}
 use Rattle.script_runs.specs.declared.notes.Note.{Note}
 use Rattle.script_handlers.specs.Handling.{Script, ScriptReacts, ScriptWrites}
+use Rattle.client_machine.specs.ClientStates.{ClientTx, tx_at}
+use Rattle.client_machine.specs.ClientSteps.{may_begin}
 use Rattle.legal_sessions.specs.Legal.{is_in_doubt, may_write}
 use Rattle.session_states.specs.Telling.{RunningTx}
 use Rattle.task_statements.specs.Offices.{OfficeState}
 use Rattle.session_txs.specs.Running.{SessionTxState}
 use Rattle.session_driver.specs.declared.finished.Finished.{Finished}
+use Rattle.session_driver.specs.Choosing.{IsDue}
+use Rattle.session_driver.specs.Measures.{beyond_memory}
 use Rattle.session_driver.specs.Scenes.{scene_of, LeadsTo, with_finish_of}
 
 abbrev pub begun_run : ℕ → TxBody Script → RunningTx
@@ -53,3 +61,22 @@ pub record HasSureEnd (tx : SessionTxState) : Type 0 where
   pub outcome : Outcome
   pub end : tx.end ≡ Some outcome
   pub sure : is_in_doubt outcome ≡ false
+
+pub record FinishedWith (old : Finished) (number : ℕ) (new : Finished) : Type 0 where
+  pub finish : new.finish ≡ old.finish ++ number ∷ []
+  pub few : length new.finish < beyond_memory
+
+-- ---- what its client holds
+pub record HoldsTx (office : OfficeState) (number : ℕ) : Type 0 where
+  pub tx : ClientTx
+  pub found : tx_at office.client number ≡ Some tx
+  pub started : tx.started ≡ true
+
+pub record HoldsBegun (office : OfficeState) (number : ℕ) (body : TxBody Script) : Type 0 where
+  pub idle : office.client.tasks ≡ []
+  pub held : HoldsTx office number
+  pub body_is : held.tx.body ≡ body
+
+pub record WasAborted (office : OfficeState) (number : ℕ) : Type 0 where
+  pub due : IsDue office.run office.client number
+  pub aborted : may_begin due.tx.body ≡ false

@@ -1,19 +1,17 @@
 -- The clients of a session in their seats.
 --     seat_seen, script_of_seat        what is held of a client;  its script
 --     session_seen          what is held of the session
---     AreSeated             each client sits at the desk
---     IsDriving             the session is under way with these clients in these seats, and none of its transactions runs
-use Rattle.std.specs.Prelude.{◌≡◌, ℕ, List, map, slice_get, Some, None}
+--     IsDriving             the driver can go on with the session with these clients in these seats, and none of its transactions runs
+use Rattle.std.specs.Prelude.{◌≡◌, List, map, None}
 use Rattle.std.specs.Arc.{arc_value}
 use Rattle.idb_desk.specs.Steps.{DeskRun}
 use Rattle.item_changes.specs.Items.{Items}
 use Rattle.script_statements.specs.declared.script.Client.{Client}
 use Rattle.script_statements.specs.declared.script.ScriptSession.{ScriptSession}
-use Rattle.client_seats.specs.Seating.{IsSeated}
 use Rattle.session_states.specs.Sessions.{SeatNow, SessionNow}
-use Rattle.session_states.specs.UnderWay.{IsUnderWay}
 use Rattle.session_driver.specs.declared.finished.Finished.{Finished}
 use Rattle.session_driver.specs.declared.seats.Seat.{Seat}
+use Rattle.session_driver.specs.Scenes.{IsDriven}
 
 abbrev pub seat_seen : Seat → SeatNow
 seat_seen s = record { client = s.client; notes = s.notes }
@@ -24,10 +22,6 @@ script_of_seat s = arc_value s.script
 abbrev pub session_seen : DeskRun → List Seat → Finished → Items → SessionNow
 session_seen r seats done items = record { run = r; seats = map seat_seen seats; finish = done.finish; commits = done.commits; items = items }
 
-pub record AreSeated (r : DeskRun) (seats : List SeatNow) : Type 0 where
-  pub each : (place : ℕ) (seat : SeatNow) → slice_get seats place ≡ Some seat → IsSeated seat.client r
-
 pub record IsDriving (session : ScriptSession) (opening : Items) (r : DeskRun) (seats : List Seat) (done : Finished) (items : Items) : Type 0 where
-  pub under_way : IsUnderWay session opening (session_seen r seats done items) None
-  pub seated : AreSeated r (map seat_seen seats)
+  pub driven : IsDriven session opening (session_seen r seats done items) None
   pub scripts : map script_of_seat seats ≡ session.clients

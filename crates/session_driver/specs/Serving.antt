@@ -1,6 +1,6 @@
 -- A client is served.
 --     ServedInto            it ran its oldest task; or where it has none it took its oldest event and met it, if there was one
-use Rattle.std.specs.Prelude.{◌≡◌, false, true, List, is_some}
+use Rattle.std.specs.Prelude.{List, is_some}
 use Rattle.idb_desk.specs.Refusals.{has_some}
 use Rattle.idb_desk.specs.Steps.{desk_run, event_for}
 use Rattle.script_runs.specs.declared.notes.Note.{Note}

@@ -1,31 +1,29 @@
 // The driver.
-ghost use Rattle.std.specs.Prelude.{◌≡◌, ◌<◌, ℕ, false, length, Some, IfOk, OnOk};
+ghost use Rattle.std.specs.Prelude.{◌≡◌, ◌<◌, ◌+◌, ◌-◌, ℕ, true, false, length, Some, IfOk, OnOk};
 ghost use Rattle.std.specs.FinMap as finite;
-ghost use Rattle.std.specs.Vec.{vec_len};
 ghost use Rattle.item_changes.specs.Items.{Items};
 ghost use Rattle.idb_desk.specs.Steps.{desk_run};
 ghost use Rattle.scope_desk.specs.Starts.{may_start};
 ghost use Rattle.scope_desk.specs.declared.unfinished.MayStart.TheVariants.{Go};
 ghost use Rattle.session_driver.specs.declared.finished.Finished.{Finished};
-ghost use Rattle.client_ties.specs.Unfinished.{least_of};
 ghost use Rattle.legal_sessions.specs.Legal.{IsLegalReport};
 ghost use Rattle.session_states.specs.Sessions.{IsAtEnd};
-ghost use Rattle.session_driver.specs.Choosing.{next_move};
-ghost use Rattle.session_driver.specs.Scenes.{scene_of, LeadsTo};
+ghost use Rattle.session_driver.specs.Choosing.{next_move, IsMoveOf, IsChosen};
+ghost use Rattle.session_driver.specs.Measures.{beyond_memory, left_to, session_left};
+ghost use Rattle.session_driver.specs.Scenes.{scene_of, LeadsTo, StandsOn};
 ghost use Rattle.session_driver.specs.declared.choosing.NextMove.TheVariants as move;
 ghost use Rattle.session_driver.specs.Seats.{session_seen, IsDriving};
 
 use crate::choosing::{NextMove, next_move};
-use crate::errors::SessionError;
 use crate::finished::Finished;
 use crate::reporting::report_of;
 use crate::running::run_tx;
 use crate::seats::{Seat, put_back, seats_of, shared};
 use crate::serving::serve;
-use client_seats::seat_laws;
 use client_tasks::Office;
 use clone_values::Numbers;
 use edge_traits::Gate;
+use idb_base::NoMemory;
 use idb_desk::{Desk, desk_laws};
 use idb_schema::Schemas;
 use index_tables::Tables;
@@ -33,6 +31,7 @@ use report_lines::Report;
 use script_runs::Notes;
 use script_statements::ScriptSession;
 use session_databases::SessionDatabases;
+use session_facts::{fitting_laws, showing_laws};
 use session_states::under_way_laws;
 use std::alloc::Global;
 use std::snapshot::Snapshot;
@@ -46,11 +45,14 @@ fn move_in<T: Tables, G: Gate>(
     notes: &mut Notes,
     databases: &mut SessionDatabases<T>,
     done: &mut Finished,
-) -> Result<(), SessionError>
-    requires { (n : ℕ) → number ≡ Some n → least_of (desk_run office.old.run) ≡ Some n }
-    ensures { OnOk result (LeadsTo None None
+) -> Result<(), NoMemory>
+    requires due { IsMoveOf office.old.run office.old.client number }
+    requires on { StandsOn None (scene_of office.old notes.old done.old databases.old) }
+    ensures leads { OnOk result (LeadsTo None None
         (scene_of office.old notes.old done.old databases.old)
         (scene_of office.new notes.new done.new databases.new)) }
+    ensures less { OnOk result (left_to office.new.client notes.new + (beyond_memory - length done.new.finish)
+        < left_to office.old.client notes.old + (beyond_memory - length done.old.finish)) }
 {
     match number {
         Some(number) => {
@@ -75,14 +77,14 @@ fn move_client<T: Tables, G: Gate>(
     seats: &mut Vec<Seat>,
     databases: &mut SessionDatabases<T>,
     done: &mut Finished,
-) -> Result<Desk, SessionError>
+) -> Result<Desk, NoMemory>
     requires driving { IsDriving of.now.value finite.empty desk seats.old.items done.old databases.old }
-    requires within { place < vec_len seats.old }
-    requires least { (n : ℕ) → number ≡ Some n → least_of (desk_run desk) ≡ Some n }
-    ensures { IfOk result (λ last.
+    requires chosen { IsChosen desk seats.old.items place number }
+    ensures driving { IfOk result (λ last.
         IsDriving of.now.value finite.empty last seats.new.items done.new databases.new) }
+    ensures less { OnOk result
+        (session_left seats.new.items done.new < session_left seats.old.items done.old) }
 {
-    under_way_laws();
     let seat = seats.remove(place);
     let Seat {
         script,
@@ -118,9 +120,9 @@ fn move_client<T: Tables, G: Gate>(
 fn place_of(of: &Snapshot<ScriptSession>, desk: &Desk, seats: &[Seat], number: u64) -> usize
     requires driving { (done : Finished) × ((items : Items)
         × IsDriving of.now.value finite.empty desk.now seats.now done items) }
-    requires least { least_of (desk_run desk.now) ≡ Some number }
+    requires next { next_move (desk_run desk.now) seats.now ≡ move.Transaction number }
     requires may_start { may_start (desk_run desk.now).board.scopes number ≡ Go }
-    ensures { result < length seats.now }
+    ensures { IsChosen desk.now seats.now result (Some number) }
 {
     desk_laws();
     under_way_laws();
@@ -139,11 +141,13 @@ fn advance<T: Tables, G: Gate>(
     seats: &mut Vec<Seat>,
     databases: &mut SessionDatabases<T>,
     done: &mut Finished,
-) -> Result<(Desk, bool), SessionError>
+) -> Result<(Desk, bool), NoMemory>
     requires { IsDriving of.now.value finite.empty desk seats.old.items done.old databases.old }
     ensures driving { IfOk result (λ r.
         IsDriving of.now.value finite.empty r.0 seats.new.items done.new databases.new) }
     ensures end { IfOk result (λ r. r.1 ≡ false → next_move (desk_run r.0) seats.new.items ≡ move.Nothing) }
+    ensures less { IfOk result (λ r. r.1 ≡ true
+        → session_left seats.new.items done.new < session_left seats.old.items done.old) }
 {
     match next_move(&desk, seats.as_slice()) {
         NextMove::Client(place) => Ok((
@@ -180,37 +184,38 @@ fn drive<T: Tables, G: Gate>(
     seats: &mut Vec<Seat>,
     databases: &mut SessionDatabases<T>,
     done: &mut Finished,
-) -> Result<Desk, SessionError>
+) -> Result<Desk, NoMemory>
     requires { IsDriving of.now.value finite.empty desk seats.old.items done.old databases.old }
     ensures driving { IfOk result (λ last.
         IsDriving of.now.value finite.empty last seats.new.items done.new databases.new) }
     ensures end { IfOk result (λ last. IsAtEnd (session_seen last seats.new.items done.new databases.new)) }
 {
     let mut desk = desk;
-    for _move in 0..u64::MAX {
+    'moves: loop {
         let (last, goes) = advance(alloc, gate, of, desk, seats, databases, done)?;
         if !goes {
             return Ok(last);
         }
         desk = last;
     }
-    Err(SessionError::Stuck)
 }
 
 /// Runs a session whole, on no databases: the least client that has a task or an event goes first, its oldest task before its oldest
 /// event; where none has, the least transaction that isn't finished is run to its end, with its client's tasks between its turns. What
-/// the session reports at its end is a legal report. The gate is told of each request before it runs.
+/// the session reports at its end is a legal report. The gate is told of each request before it runs. Only want of memory stops it,
+/// as which more than 2^32 - 1 clients count.
 pub fn run_session<T: Tables, G: Gate>(
     alloc: Global,
     gate: &G,
     session: ScriptSession,
     number: u32,
-) -> Result<Report, SessionError>
+) -> Result<Report, NoMemory>
     ensures legal { IfOk result (λ report. (closing : Items)
         × IsLegalReport session number finite.empty report closing) }
 {
     under_way_laws();
-    seat_laws();
+    fitting_laws();
+    showing_laws();
     let of = Snapshot::of(&session);
     let drop_end = session.drop_end;
     let mut seats = seats_of(alloc, session.clients)?;
@@ -229,5 +234,6 @@ pub fn run_session<T: Tables, G: Gate>(
         &mut databases,
         &mut done,
     )?;
-    Ok(report_of(alloc, desk, seats, done, number, drop_end)?)
+    let report = report_of(alloc, desk, seats, done, number, drop_end)?;
+    Ok(report)
 }

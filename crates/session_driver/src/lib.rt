@@ -7,7 +7,6 @@
 mod cancelling;
 mod choosing;
 mod driver;
-mod errors;
 mod finished;
 mod reporting;
 mod running;
@@ -15,7 +14,6 @@ mod seats;
 mod serving;
 
 pub use driver::run_session;
-pub use errors::SessionError;
 
 #[cfg(test)]
 mod tests;

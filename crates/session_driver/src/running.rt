@@ -1,48 +1,53 @@
 // A transaction is run whole.
-ghost use Rattle.std.specs.Prelude.{◌≡◌, ◌&&◌, List, true, false, [], ◌∷◌, drop, Some, None, IfOk, OnOk, IfSome, IfNone};
+ghost use Rattle.std.specs.Prelude.{◌≡◌, ◌+◌, ◌<◌, ◌&&◌, List, true, false, [], ◌∷◌, drop, length, Some, None, IfOk, OnOk, IfSome, IfNone};
 ghost use Rattle.idb_desk.specs.Steps.{desk_run};
+ghost use Rattle.idb_desk.specs.Refusals.{is_allowed};
+ghost use Rattle.idb_desk.specs.declared.steps.DeskStep.TheVariants as step;
 ghost use Rattle.item_changes.specs.Items.{Items};
 ghost use Rattle.serial_order.specs.FinishEntries.{Scripted, Deletion, did_commit};
 ghost use Rattle.script_runs.specs.declared.notes.Note.{Note};
 ghost use Rattle.session_driver.specs.declared.finished.Finished.{Finished};
 ghost use Rattle.client_parts.specs.Holding.{body_seen};
-ghost use Rattle.client_ties.specs.Unfinished.{least_of};
-ghost use Rattle.session_driver.specs.Scenes.{scene_of, LeadsTo};
-ghost use Rattle.session_driver.specs.Running.{begun_run, TurnLeads, EndLeads, RunsOnInto, HasSureEnd};
+ghost use Rattle.session_facts.specs.Showing.{IsSoundKept};
+ghost use Rattle.session_driver.specs.Choosing.{IsDue};
+ghost use Rattle.session_driver.specs.Measures.{beyond_memory};
+ghost use Rattle.session_driver.specs.Scenes.{scene_of, LeadsTo, StandsOn};
+ghost use Rattle.session_driver.specs.Running.{begun_run, TurnLeads, EndLeads, RunsOnInto, HasSureEnd, FinishedWith, HoldsTx, HoldsBegun, WasAborted};
 
 use crate::cancelling::cancel_tx;
-use crate::errors::{SessionError, of_begin};
 use crate::finished::{Finished, note_finish};
 use crate::seats::is_run;
 use crate::serving::run_tasks;
 use client_parts::{BegunBody, BegunTx};
-use client_seats::seat_laws;
 use client_tasks::Office;
 use clone_values::Text;
 use edge_traits::Gate;
+use idb_base::NoMemory;
 use idb_calls::Outcome;
 use idb_schema::Schema;
 use index_tables::Tables;
 use list_machine::Step;
 use script_runs::Notes;
 use session_databases::SessionDatabases;
+use session_facts::{fitting_laws, showing_laws, telling_laws};
 use session_states::step_laws;
 use session_txs::{SessionTx, begin, delete_database};
 use std::alloc::Global;
 
 /// The handlers of a turn wrote the notes from this place on.
-fn take_turn(
-    office: &mut Office,
-    number: u64,
-    notes: &Notes,
-    from: usize,
-) -> Result<(), SessionError>
-    ensures { OnOk result (TurnLeads number office.old (drop from notes.now) office.new) }
+fn take_turn(office: &mut Office, number: u64, notes: &Notes, from: usize) -> Result<(), NoMemory>
+    requires idle { office.old.client.tasks ≡ [] }
+    requires holds { HoldsTx office.old number }
+    ensures leads { OnOk result (TurnLeads number office.old (drop from notes.now) office.new) }
+    ensures holds { OnOk result (HoldsTx office.new number) }
 {
-    seat_laws();
     step_laws();
-    if !office.take_turn(number, notes, from)? {
-        return Err(SessionError::Stuck);
+    fitting_laws();
+    showing_laws();
+    telling_laws();
+    let taken = office.take_turn(number, notes, from)?;
+    if !taken {
+        unreachable!();
     }
     is_run(office.desk());
     Ok(())
@@ -56,21 +61,27 @@ fn run_turn<T: Tables, G: Gate>(
     tx: &mut SessionTx<T>,
     number: u64,
     notes: &mut Notes,
-) -> Result<bool, SessionError>
+) -> Result<bool, NoMemory>
     requires number { tx.old.number ≡ number }
     requires goes { tx.old.end ≡ None }
+    requires holds { HoldsTx office.old number }
     ensures runs { OnOk result (RunsOnInto office.old notes.old tx.old office.new notes.new tx.new) }
+    ensures holds { OnOk result (HoldsTx office.new number) }
     ensures on { IfOk result (λ on. on ≡ true → tx.new.end ≡ None) }
+    ensures more { IfOk result (λ on. on ≡ true → length tx.new.turns ≡ length tx.old.turns + 1) }
+    ensures few { IfOk result (λ on. on ≡ true → length tx.new.turns < beyond_memory) }
     ensures over { IfOk result (λ on. on ≡ false → HasSureEnd tx.new) }
+    ensures idle { IfOk result (λ on. on ≡ false → office.new.client.tasks ≡ []) }
 {
     run_tasks(alloc, office, notes)?;
     let from = notes.len();
     let client = office.number();
     match tx.step(gate, client, number, notes) {
-        Step::NoMemory => Err(SessionError::NoMemory),
+        Step::NoMemory => Err(NoMemory),
         Step::Idle => Ok(false),
         Step::Did => {
             take_turn(office, number, notes, from)?;
+            let _ = tx.turn_count();
             Ok(true)
         }
         Step::Aborted { .. } => {
@@ -89,18 +100,21 @@ fn run_turns<T: Tables, G: Gate>(
     tx: &mut SessionTx<T>,
     number: u64,
     notes: &mut Notes,
-) -> Result<(), SessionError>
+) -> Result<(), NoMemory>
     requires number { tx.old.number ≡ number }
     requires goes { tx.old.end ≡ None }
+    requires holds { HoldsTx office.old number }
     ensures runs { OnOk result (RunsOnInto office.old notes.old tx.old office.new notes.new tx.new) }
+    ensures holds { OnOk result (HoldsTx office.new number) }
     ensures over { OnOk result (HasSureEnd tx.new) }
+    ensures idle { OnOk result (office.new.client.tasks ≡ []) }
 {
-    for _turn in 0..u64::MAX {
-        if !run_turn(alloc, gate, office, tx, number, notes)? {
+    'turns: loop {
+        let on = run_turn(alloc, gate, office, tx, number, notes)?;
+        if !on {
             return Ok(());
         }
     }
-    Err(SessionError::Stuck)
 }
 
 /// The started transaction finishes with this outcome.
@@ -111,13 +125,20 @@ fn finish_tx(
     outcome: Outcome,
     kept: Option<Schema>,
     notes: &mut Notes,
-) -> Result<(), SessionError>
+) -> Result<(), NoMemory>
+    requires idle { office.old.client.tasks ≡ [] }
+    requires holds { HoldsTx office.old number }
+    requires allowed { is_allowed (desk_run office.old.run)
+        (step.Leaves office.old.client.number number outcome kept) ≡ true }
+    requires sound { IsSoundKept kept }
     ensures { OnOk result (EndLeads number outcome kept office.old notes.old office.new notes.new) }
 {
-    seat_laws();
     step_laws();
-    if !office.finish(alloc, number, outcome, kept, notes)? {
-        return Err(SessionError::Stuck);
+    fitting_laws();
+    showing_laws();
+    let finished = office.finish(alloc, number, outcome, kept, notes)?;
+    if !finished {
+        unreachable!();
     }
     is_run(office.desk());
     Ok(())
@@ -133,23 +154,36 @@ fn run_scripted<T: Tables, G: Gate>(
     notes: &mut Notes,
     databases: &mut SessionDatabases<T>,
     done: &mut Finished,
-) -> Result<(), SessionError>
-    ensures { OnOk result (LeadsTo (Some (begun_run number (Scripted begun.body))) None
+) -> Result<(), NoMemory>
+    requires on { StandsOn (Some (begun_run number (Scripted begun.body)))
+        (scene_of office.old notes.old done.old databases.old) }
+    requires holds { HoldsBegun office.old number (Scripted begun.body) }
+    ensures leads { OnOk result (LeadsTo (Some (begun_run number (Scripted begun.body))) None
         (scene_of office.old notes.old done.old databases.old)
         (scene_of office.new notes.new done.new databases.new)) }
+    ensures finishes { OnOk result (FinishedWith done.old number done.new) }
 {
-    let mut tx = match begin(alloc, databases, number, begun) {
-        Ok(tx) => tx,
-        Err(e) => return Err(of_begin(e)),
-    };
+    showing_laws();
+    telling_laws();
+    let mut tx = begin(alloc, databases, number, begun)?;
     run_turns(alloc, gate, office, &mut tx, number, notes)?;
     let writes = tx.may_write();
     let end = tx.finish(databases)?;
     let outcome = end.outcome;
+    is_sound(&end.kept);
     finish_tx(alloc, office, number, outcome, end.kept, notes)?;
     let commits_too = counts_as_commit(outcome, writes);
     note_finish(done, number, commits_too)?;
     Ok(())
+}
+
+/// A schema in memory is one that a program can have.
+fn is_sound(kept: &Option<Schema>)
+    ensures { IsSoundKept kept.now }
+{
+    if let Some(schema) = kept {
+        let _ = schema.len();
+    }
 }
 
 /// Whether a transaction with this outcome is among the commits.
@@ -171,26 +205,36 @@ fn run_deletion<T: Tables>(
     notes: &mut Notes,
     databases: &mut SessionDatabases<T>,
     done: &mut Finished,
-) -> Result<(), SessionError>
-    ensures { OnOk result (LeadsTo (Some (begun_run number (Deletion name))) None
+) -> Result<(), NoMemory>
+    requires on { StandsOn (Some (begun_run number (Deletion name)))
+        (scene_of office.old notes.old done.old databases.old) }
+    requires holds { HoldsBegun office.old number (Deletion name) }
+    ensures leads { OnOk result (LeadsTo (Some (begun_run number (Deletion name))) None
         (scene_of office.old notes.old done.old databases.old)
         (scene_of office.new notes.new done.new databases.new)) }
+    ensures finishes { OnOk result (FinishedWith done.old number done.new) }
 {
+    telling_laws();
     delete_database(alloc, databases, &name)?;
     finish_tx(alloc, office, number, Outcome::Committed, None, notes)?;
     note_finish(done, number, true)?;
     Ok(())
 }
 
+/// The least transaction starts, unless its body aborted it.
 fn start_tx(office: &mut Office, number: u64) -> Option<BegunBody>
-    requires { least_of (desk_run office.old.run) ≡ Some number }
+    requires { IsDue office.old.run office.old.client number }
     ensures started { (notes : List Note) (done : Finished) (items : Items) → IfSome result (λ body.
         LeadsTo None (Some (begun_run number (body_seen body)))
         (scene_of office.old notes done items) (scene_of office.new notes done items)) }
+    ensures holds { IfSome result (λ body. HoldsBegun office.new number (body_seen body)) }
+    ensures aborted { IfNone result (WasAborted office.old number) }
     ensures unchanged { IfNone result (office.new ≡ office.old) }
 {
-    seat_laws();
     step_laws();
+    fitting_laws();
+    showing_laws();
+    telling_laws();
     let body = office.start(number);
     is_run(office.desk());
     body
@@ -205,11 +249,13 @@ pub(crate) fn run_tx<T: Tables, G: Gate>(
     notes: &mut Notes,
     databases: &mut SessionDatabases<T>,
     done: &mut Finished,
-) -> Result<(), SessionError>
-    requires { least_of (desk_run office.old.run) ≡ Some number }
-    ensures { OnOk result (LeadsTo None None
+) -> Result<(), NoMemory>
+    requires due { IsDue office.old.run office.old.client number }
+    requires on { StandsOn None (scene_of office.old notes.old done.old databases.old) }
+    ensures leads { OnOk result (LeadsTo None None
         (scene_of office.old notes.old done.old databases.old)
         (scene_of office.new notes.new done.new databases.new)) }
+    ensures finishes { OnOk result (FinishedWith done.old number done.new) }
 {
     match start_tx(office, number) {
         Some(BegunBody::Scripted(begun)) => {

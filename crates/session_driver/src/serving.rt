@@ -1,17 +1,20 @@
 // A client runs its tasks, and takes its events.
-ghost use Rattle.std.specs.Prelude.{◌≡◌, not, ◌&&◌, [], is_some, IfOk, OnOk};
+ghost use Rattle.std.specs.Prelude.{◌≡◌, ◌<◌, ℕ, not, ◌&&◌, true, length, [], is_some, Option, IfOk, OnOk};
 ghost use Rattle.idb_desk.specs.Steps.{desk_run, event_for};
 ghost use Rattle.idb_desk.specs.Refusals.{has_some};
+ghost use Rattle.session_states.specs.Telling.{RunningTx};
 ghost use Rattle.client_tasks.specs.Steps.{Whether, StaysAsIs, RunsTaskInto, TakesEventInto};
-ghost use Rattle.session_driver.specs.Scenes.{KeepsOn};
+ghost use Rattle.session_driver.specs.Choosing.{has_work};
+ghost use Rattle.session_driver.specs.Measures.{beyond_memory, left_to};
+ghost use Rattle.session_driver.specs.Running.{HoldsTx};
+ghost use Rattle.session_driver.specs.Scenes.{KeepsOn, IsAtWork};
 ghost use Rattle.session_driver.specs.Serving.{ServedInto};
 
-use crate::errors::SessionError;
 use crate::seats::is_run;
-use client_seats::seat_laws;
 use client_tasks::{Office, TakeError};
 use idb_base::NoMemory;
 use script_runs::Notes;
+use session_facts::{fitting_laws, showing_laws, telling_laws};
 use session_states::step_laws;
 use std::alloc::Global;
 
@@ -22,9 +25,14 @@ fn run_task(alloc: Global, office: &mut Office, notes: &mut Notes) -> Result<boo
         (RunsTaskInto office.old notes.old office.new notes.new)
         (StaysAsIs office.old notes.old office.new notes.new)) }
     ensures keeps { OnOk result (KeepsOn office.old notes.old office.new notes.new) }
+    ensures holds { (number : ℕ) → HoldsTx office.old number → OnOk result (HoldsTx office.new number) }
+    ensures less { IfOk result (λ ran. ran ≡ true
+        → left_to office.new.client notes.new < left_to office.old.client notes.old) }
 {
-    seat_laws();
     step_laws();
+    fitting_laws();
+    showing_laws();
+    telling_laws();
     let ran = office.run_task(alloc, notes)?;
     is_run(office.desk());
     Ok(ran)
@@ -35,47 +43,60 @@ pub(crate) fn run_tasks(
     alloc: Global,
     office: &mut Office,
     notes: &mut Notes,
-) -> Result<(), SessionError>
+) -> Result<(), NoMemory>
     ensures keeps { OnOk result (KeepsOn office.old notes.old office.new notes.new) }
+    ensures holds { (number : ℕ) → HoldsTx office.old number → OnOk result (HoldsTx office.new number) }
     ensures idle { OnOk result (office.new.client.tasks ≡ []) }
 {
-    for _round in 0..u64::MAX {
-        if !run_task(alloc, office, notes)? {
+    'tasks: loop {
+        let ran = run_task(alloc, office, notes)?;
+        if !ran {
             return Ok(());
         }
     }
-    Err(SessionError::Stuck)
+}
+
+/// What stands in memory has a length that is a `usize`.
+fn are_few(notes: &Notes)
+    ensures { length notes.now < beyond_memory }
+{
+    let _ = notes.len();
 }
 
 /// The client takes its oldest event and meets it, where it has no task; whether it did.
-fn take_event(alloc: Global, office: &mut Office, notes: &mut Notes) -> Result<bool, SessionError>
+fn take_event(alloc: Global, office: &mut Office, notes: &mut Notes) -> Result<bool, NoMemory>
+    requires at { (running : Option RunningTx) × IsAtWork running office.old notes.old }
     ensures one { IfOk result (λ took. took ≡ (not (has_some office.old.client.tasks)
         && is_some (event_for (desk_run office.old.run) office.old.client.number))) }
     ensures took { IfOk result (λ took. Whether took
         (TakesEventInto office.old notes.old office.new notes.new)
         (StaysAsIs office.old notes.old office.new notes.new)) }
     ensures keeps { OnOk result (KeepsOn office.old notes.old office.new notes.new) }
+    ensures less { IfOk result (λ took. took ≡ true
+        → left_to office.new.client notes.new < left_to office.old.client notes.old) }
 {
-    seat_laws();
     step_laws();
+    fitting_laws();
+    showing_laws();
+    telling_laws();
     match office.take_event(alloc, notes) {
         Ok(took) => {
             is_run(office.desk());
+            are_few(notes);
             Ok(took)
         }
-        Err(TakeError::Stray) => Err(SessionError::Stuck),
-        Err(TakeError::NoMemory) => Err(SessionError::NoMemory),
+        Err(TakeError::Stray) => unreachable!(),
+        Err(TakeError::NoMemory) => Err(NoMemory),
     }
 }
 
 /// The client runs its oldest task, or where it has none takes its oldest event and meets it.
-pub(crate) fn serve(
-    alloc: Global,
-    office: &mut Office,
-    notes: &mut Notes,
-) -> Result<(), SessionError>
+pub(crate) fn serve(alloc: Global, office: &mut Office, notes: &mut Notes) -> Result<(), NoMemory>
+    requires at { (running : Option RunningTx) × IsAtWork running office.old notes.old }
     ensures served { OnOk result (ServedInto office.old notes.old office.new notes.new) }
     ensures keeps { OnOk result (KeepsOn office.old notes.old office.new notes.new) }
+    ensures less { OnOk result (has_work (desk_run office.old.run) office.old.client ≡ true
+        → left_to office.new.client notes.new < left_to office.old.client notes.old) }
 {
     if run_task(alloc, office, notes)? {
         return Ok(());

@@ -1,30 +1,54 @@
-use Rattle.std.proofs.Common.{◌≡◌, ◌∷◌, [], Some, subst, sym, ap, ◌∙◌}
-use Rattle.idb_desk.specs.Steps.{IsDeskRun}
+use Rattle.std.proofs.Common.{◌≡◌, ◌∷◌, [], false, subst, sym, ap, ◌∙◌, None}
+use Rattle.idb_desk.specs.Steps.{IsDeskRun, desk_run}
+use Rattle.idb_desk.specs.Refusals.{is_allowed}
+use Rattle.idb_desk.specs.declared.steps.DeskStep.TheVariants as step
 use Rattle.serial_order.specs.FinishEntries.{Scripted}
 use Rattle.session_txs.specs.Running.{EndsUnstarted}
-use Rattle.client_parts.specs.declared.begun.BegunBody.{BegunBody}
-use Rattle.client_parts.specs.Holding.{body_seen, begun_seen}
 use Rattle.client_tasks.specs.Steps.{FinishesUnstartedInto}
 use Rattle.task_statements.specs.Offices.{OfficeState}
-use Rattle.session_driver.proofs.Turning.{dropped_leads, whether_so, body_held, one_turn_joined, one_turn_added}
+use Rattle.session_driver.proofs.Laws.{driven_cancel}
+use Rattle.session_driver.proofs.Standing.{drop_can, allowed_aborted}
+use Rattle.session_driver.proofs.Turning.{dropped_leads, whether_so, body_held, one_turn_joined, one_turn_added, dropped_body, never_committed, is_finished, aborted_there, no_outcome}
 use Rattle.session_driver.proofs.cancelling.cancel_tx.Goals as goal
 
-pub returns : goal.returns
-returns c = λ items.
+pub unreachable-requires : goal.unreachable-requires
+unreachable-requires c = let can = drop_can c.args.office.now c.args.number c.requires.aborted.due in let none = c.in_default.ensures.none in cc
+
+pub scripted_of-begun-requires : goal.scripted_of-begun-requires
+scripted_of-begun-requires c = dropped_body c.args.office.now c.args.number c.requires.aborted c.in-Some.tx _ c.in-Some.ensures.found c.into_parts-kind.ensures.begun
+
+pub unreachable-requires-in_default-2 : goal.unreachable-requires-in_default-2
+unreachable-requires-in_default-2 c =
+    let held = body_held c.in-Some.tx.started c.in-Some.tx.body (Scripted c.scripted_of-begun.result.body) c.in-Some.ensures.waits (sym c.scripted_of-begun.ensures ∙ c.into_parts-kind.ensures.begun) in
+    let there = aborted_there c.telling_laws.ensures.not_begun c.args.office.now c.args.number c.requires.aborted c.in-Some.tx c.scripted_of-begun.result.body c.in-Some.ensures.found held c.in_ok-outcome.ensures.placed in
+    no_outcome _ _ c.in_default-2.is c.in_ok-outcome.ensures.some there
+
+pub unreachable-requires-then-not-finished : goal.unreachable-requires-then-not-finished
+unreachable-requires-then-not-finished c =
+    let ends : EndsUnstarted c.scripted_of-begun.result.body c.in-Some-2.outcome c.args.notes.now c.cancel_begun.new.notes = rw c.in-Some-2.is at c.in_ok-outcome.ensures.cancelled in
+    let allowed = allowed_aborted c.telling_laws.ensures.aborted None c.args.office.now c.args.notes.now c.args.number c.in-Some.tx c.in-Some-2.outcome c.requires.at c.in-Some.ensures.found (never_committed c.scripted_of-begun.result.body c.in-Some-2.outcome _ _ ends) in
+    let taken = ap (λ (o : OfficeState). is_allowed (desk_run o.run) (step.Leaves o.client.number c.args.number c.in-Some-2.outcome None)) c.in-Some.ensures.taken in
+    let one = c.in_ok-finished.ensures.one in
+    cc
+
+pub returns-clause-leads : goal.returns-clause-leads
+returns-clause-leads c = λ items.
     let tx = c.in-Some.tx in
     let old = c.args.office.now in
-    let body = c.in-Some-Scripted.begun.body in
+    let body = c.scripted_of-begun.result.body in
     let outcome = c.in-Some-2.outcome in
     let ends : EndsUnstarted body outcome c.args.notes.now c.cancel_begun.new.notes = rw c.in-Some-2.is at c.in_ok-outcome.ensures.cancelled in
-    let held : Scripted body ≡ tx.body = body_held tx.started tx.body (Scripted body) c.in-Some.ensures.waits
-    (ap begun_seen (sym (c.in-Some-Scripted.is ∙ ap (λ (b : BegunBody). Some b) c.in-Some-Scripted.field-0-is)) ∙ c.into_parts-kind.ensures.begun) in
+    let held : Scripted body ≡ tx.body = body_held tx.started tx.body (Scripted body) c.in-Some.ensures.waits (sym c.scripted_of-begun.ensures ∙ c.into_parts-kind.ensures.begun) in
     let finished : FinishesUnstartedInto c.args.number (ends.lines ∷ []) outcome old c.args.notes.now c.finish_unstarted.new.self c.finish_unstarted.new.notes =
     subst (λ (o : OfficeState). FinishesUnstartedInto c.args.number (ends.lines ∷ []) outcome o c.args.notes.now c.finish_unstarted.new.self c.finish_unstarted.new.notes)
     (ap (λ (o : OfficeState). record o { client = old.client }) c.in-Some.ensures.taken)
-    (whether_so c.in_ok-finish_unstarted.field-0 _ _ c.if-not-branch.false
-    (c.in_ok-finish_unstarted.ensures.finished old.client tx (ends.lines ∷ []) c.args.notes.now c.in-Some.ensures.idle c.in-Some.ensures.found c.in-Some.ensures.waits (sym c.into_parts-kind.ensures.kind)
+    (whether_so c.in_ok-finished.finished _ _ c.if-not-finished.false
+    (c.in_ok-finished.ensures.finished old.client tx (ends.lines ∷ []) c.args.notes.now c.in-Some.ensures.idle c.in-Some.ensures.found c.in-Some.ensures.waits (sym c.into_parts-kind.ensures.kind)
     (ap (λ (o : OfficeState). o.client) c.in-Some.ensures.taken)
     (one_turn_joined c.len-from.result c.args.notes.now c.cancel_begun.new.notes ends.lines c.len-from.ensures ends.added)
     (one_turn_added c.args.notes.now c.cancel_begun.new.notes ends.lines ends.added))) in
-    dropped_leads c.seat_laws.ensures.others c.step_laws.ensures.cancel c.args.number body outcome tx old c.finish_unstarted.new.self c.args.notes.now c.cancel_begun.new.notes c.finish_unstarted.new.notes c.args.done.now c.note_finish.new.done items
-    ends finished (subst IsDeskRun c.desk.ensures c.is_run.ensures) c.requires c.in-Some.ensures.found held c.in_ok-note_finish.ensures
+    dropped_leads (driven_cancel c.step_laws.ensures.cancel c.fitting_laws.ensures.cancel c.showing_laws.ensures.cancel) c.args.number body outcome tx old c.finish_unstarted.new.self c.args.notes.now c.cancel_begun.new.notes c.finish_unstarted.new.notes c.args.done.now c.note_finish.new.done items
+    ends finished (subst IsDeskRun c.desk.ensures c.is_run.ensures) c.requires.aborted.due.least c.in-Some.ensures.found held c.in_ok-note_finish.ensures.noted
+
+pub returns-clause-finishes : goal.returns-clause-finishes
+returns-clause-finishes c = is_finished c.args.done.now c.note_finish.new.done c.args.number false c.in_ok-note_finish.ensures.noted c.in_ok-note_finish.ensures.few

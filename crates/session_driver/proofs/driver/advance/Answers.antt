@@ -1,8 +1,15 @@
-use Rattle.std.proofs.Common.{List, subst, sym}
+use Rattle.std.proofs.Common.{List, subst, sym, ap, ◌∙◌}
 use Rattle.std.specs.FinMap as finite
+use Rattle.idb_desk.specs.Steps.{desk_run}
 use Rattle.session_driver.specs.declared.seats.Seat.{Seat}
+use Rattle.session_driver.specs.Choosing.{next_move}
 use Rattle.session_driver.specs.Seats.{IsDriving}
+use Rattle.session_driver.proofs.Driving.{client_chosen}
 use Rattle.session_driver.proofs.driver.advance.Goals as goal
+
+pub move_client-requires-clause-chosen : goal.move_client-requires-clause-chosen
+move_client-requires-clause-chosen g c κs within = client_chosen c.args.desk c.args.seats.now.items c.in-Client.place
+    (ap (next_move (desk_run c.args.desk)) (sym c.as_slice.ensures.value) ∙ sym c.next_move.ensures.next ∙ c.in-Client.is)
 
 pub place_of-place-requires-clause-driving : goal.place_of-place-requires-clause-driving
 place_of-place-requires-clause-driving g c =

@@ -19,12 +19,12 @@ drive-requires-after_bounds g c κs within =
     let none : Finished = record { finish = c.new-3.result; commits = c.new-4.result } in
     let run : c.in_ok-desk.desk ≡ empty_run = c.in_ok-desk.ensures ∙ ap (λ (ss : List SchemaData). run_on ss) c.new.ensures in
     subst (λ (s : ScriptSession). IsDriving s finite.empty c.in_ok-desk.desk c.in_ok-seats.seats.items none c.new-databases.result) (sym c.of-of.ensures)
-    (begins_so c.under_way_laws.ensures.fresh c.seat_laws.ensures.begins c.args.session c.in_ok-desk.desk c.in_ok-seats.seats.items none c.new-databases.result
+    (begins_so c.under_way_laws.ensures.fresh c.fitting_laws.ensures.fresh c.showing_laws.ensures.fresh c.args.session c.in_ok-desk.desk c.in_ok-seats.seats.items none c.new-databases.result
     c.in_ok-seats.ensures.seats c.in_ok-seats.ensures.scripts run c.new-3.ensures c.new-4.ensures c.new-databases.ensures)
 
 pub returns : goal.returns
 returns g c = record {
-  legal = session_legal c.under_way_laws.ensures.legal c.args.session c.args.number c.in_ok-desk-2.desk c.drive.new.seats.items c.drive.new.done c.drive.new.databases c.args.session.drop_end c.in_ok-report_of.field-0
+  legal = session_legal c.under_way_laws.ensures.legal c.args.session c.args.number c.in_ok-desk-2.desk c.drive.new.seats.items c.drive.new.done c.drive.new.databases c.args.session.drop_end c.in_ok-report.report
       (subst (λ (s : ScriptSession). IsDriving s finite.empty c.in_ok-desk-2.desk c.drive.new.seats.items c.drive.new.done c.drive.new.databases) c.of-of.ensures c.in_ok-desk-2.ensures.driving)
-      c.in_ok-desk-2.ensures.end refl c.in_ok-report_of.ensures;
+      c.in_ok-desk-2.ensures.end refl c.in_ok-report.ensures;
 }

@@ -1,8 +1,13 @@
-use Rattle.std.proofs.Common.{subst}
+use Rattle.std.proofs.Common.{subst, ◌∙◌}
 use Rattle.idb_desk.specs.Steps.{IsDeskRun}
+use Rattle.session_driver.proofs.Laws.{driven_finish}
+use Rattle.session_driver.proofs.Standing.{finish_can}
 use Rattle.session_driver.proofs.Turning.{end_goes, whether_so}
 use Rattle.session_driver.proofs.running.finish_tx.Goals as goal
 
+pub unreachable-requires : goal.unreachable-requires
+unreachable-requires c = let can = c.in_ok-finished.ensures.one ∙ finish_can c.args.office.now c.args.number c.args.outcome c.args.kept c.requires.idle c.requires.holds c.requires.allowed in cc
+
 pub returns : goal.returns
-returns c = end_goes c.seat_laws.ensures.others c.step_laws.ensures.finish c.args.number c.args.outcome c.args.kept c.args.office.now c.finish.new.self c.args.notes.now c.finish.new.notes
-    (whether_so c.in_ok-finish.field-0 _ _ c.if-not-branch.false c.in_ok-finish.ensures.finished) (subst IsDeskRun c.desk.ensures c.is_run.ensures)
+returns c = end_goes (driven_finish c.step_laws.ensures.finish c.fitting_laws.ensures.finish c.showing_laws.ensures.finish) c.args.number c.args.outcome c.args.kept c.args.office.now c.finish.new.self c.args.notes.now c.finish.new.notes
+    (whether_so c.in_ok-finished.finished _ _ c.if-not-finished.false c.in_ok-finished.ensures.finished) (subst IsDeskRun c.desk.ensures c.is_run.ensures) c.requires.sound

@@ -1,10 +1,15 @@
-use Rattle.std.proofs.Common.{◌≡◌, None}
-use Rattle.session_driver.specs.Running.{RunsOnInto}
+use Rattle.std.proofs.Common.{◌≡◌, ◌-◌, None, length}
+use Rattle.session_driver.specs.Measures.{beyond_memory}
+use Rattle.session_driver.specs.Running.{RunsOnInto, HoldsTx}
 use Rattle.session_driver.proofs.running.run_turns.Given as goal
 
-abbrev pub invariant-loop-turn : goal.invariant-loop-turn
-invariant-loop-turn g l = record {
+abbrev pub invariant-turns : goal.invariant-turns
+invariant-turns g l = record {
   runs : RunsOnInto l.initial.office l.initial.notes l.initial.tx l.office l.notes l.tx;
   number : l.tx.number ≡ l.number;
   goes : l.tx.end ≡ None;
+  holds : HoldsTx l.office l.number;
 }
+
+abbrev pub decreases-turns : goal.decreases-turns
+decreases-turns g l = beyond_memory - length l.tx.turns

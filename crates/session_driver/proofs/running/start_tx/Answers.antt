@@ -1,8 +1,15 @@
 use Rattle.std.proofs.Common.{subst}
 use Rattle.idb_desk.specs.Steps.{IsDeskRun}
-use Rattle.session_driver.proofs.Turning.{start_goes}
+use Rattle.session_driver.proofs.Laws.{driven_start}
+use Rattle.session_driver.proofs.Turning.{start_goes, start_holds, start_aborted}
 use Rattle.session_driver.proofs.running.start_tx.Goals as goal
 
 pub returns-clause-started : goal.returns-clause-started
-returns-clause-started c = start_goes c.seat_laws.ensures.others c.step_laws.ensures.start c.args.number c.args.office.now c.start-body.new.self c.start-body.result c.start-body.ensures.started
-    (subst IsDeskRun c.desk.ensures c.is_run.ensures) c.requires
+returns-clause-started c = start_goes (driven_start c.step_laws.ensures.start c.fitting_laws.ensures.start c.showing_laws.ensures.start) c.args.number c.args.office.now c.start-body.new.self c.start-body.result c.start-body.ensures.started
+    (subst IsDeskRun c.desk.ensures c.is_run.ensures) c.requires.least
+
+pub returns-clause-holds : goal.returns-clause-holds
+returns-clause-holds c = start_holds c.telling_laws.ensures.held_started c.args.number c.args.office.now c.start-body.new.self c.start-body.result c.start-body.ensures.started
+
+pub returns-clause-aborted : goal.returns-clause-aborted
+returns-clause-aborted c = start_aborted c.args.number c.args.office.now c.start-body.result c.requires c.start-body.ensures.refused

@@ -1,4 +1,4 @@
-use Rattle.std.proofs.Common.{◌≡◌, refl, sym, ◌∙◌, ap, ◌∷◌, [], arith}
+use Rattle.std.proofs.Common.{sym, ap, ◌∷◌, [], arith}
 use Rattle.session_driver.proofs.Listing.{seats_more, scripts_more, count_more}
 use Rattle.session_driver.proofs.seats.seats_of.Goals as goal
 

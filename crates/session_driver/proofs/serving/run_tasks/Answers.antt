@@ -2,11 +2,14 @@ use Rattle.std.proofs.Common.{refl}
 use Rattle.session_driver.proofs.Turning.{keeps_still, keeps_again}
 use Rattle.session_driver.proofs.serving.run_tasks.Goals as goal
 
-pub loop-round-init : goal.loop-round-init
-loop-round-init c = keeps_still c.args.office.now c.args.office.now c.args.notes.now c.args.notes.now refl refl
+pub tasks-init : goal.tasks-init
+tasks-init c = record { keeps = keeps_still c.args.office.now c.args.office.now c.args.notes.now c.args.notes.now refl refl; holds = λ number h. h }
 
-pub loop-round-preserved : goal.loop-round-preserved
-loop-round-preserved c = keeps_again c.args.office.now c.loop-round.office c.run_task.new.office c.args.notes.now c.loop-round.notes c.run_task.new.notes c.loop-round.invariant c.in_ok-run_task.ensures.keeps
+pub tasks-preserved : goal.tasks-preserved
+tasks-preserved c = record {
+  keeps = keeps_again c.args.office.now c.tasks.office c.run_task.new.office c.args.notes.now c.tasks.notes c.run_task.new.notes c.tasks.invariant.keeps c.in_ok-ran.ensures.keeps;
+  holds = λ number h. c.in_ok-ran.ensures.holds number (c.tasks.invariant.holds number h);
+}
 
-pub returns-then-not-branch-clause-keeps : goal.returns-then-not-branch-clause-keeps
-returns-then-not-branch-clause-keeps c = keeps_again c.args.office.now c.loop-round.office c.run_task.new.office c.args.notes.now c.loop-round.notes c.run_task.new.notes c.loop-round.invariant c.in_ok-run_task.ensures.keeps
+pub returns-then-not-ran-clause-keeps : goal.returns-then-not-ran-clause-keeps
+returns-then-not-ran-clause-keeps c = keeps_again c.args.office.now c.tasks.office c.run_task.new.office c.args.notes.now c.tasks.notes c.run_task.new.notes c.tasks.invariant.keeps c.in_ok-ran.ensures.keeps

@@ -1,5 +1,14 @@
+use Rattle.std.proofs.Common.{ℕ}
+use Rattle.session_driver.specs.Measures.{left_to}
+use Rattle.session_driver.specs.Running.{HoldsTx}
 use Rattle.session_driver.specs.Scenes.{KeepsOn}
 use Rattle.session_driver.proofs.serving.run_tasks.Given as goal
 
-abbrev pub invariant-loop-round : goal.invariant-loop-round
-invariant-loop-round l = KeepsOn l.initial.office l.initial.notes l.office l.notes
+abbrev pub invariant-tasks : goal.invariant-tasks
+invariant-tasks l = record {
+  keeps : KeepsOn l.initial.office l.initial.notes l.office l.notes;
+  holds : (number : ℕ) → HoldsTx l.initial.office number → HoldsTx l.office number;
+}
+
+abbrev pub decreases-tasks : goal.decreases-tasks
+decreases-tasks l = left_to l.office.client l.notes
