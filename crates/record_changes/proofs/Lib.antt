@@ -1,0 +1,10 @@
+pub mod Maps
+pub mod Meant
+pub mod EachKind
+pub mod Asides
+pub mod Back
+pub mod Unbroken
+pub mod IndexLists
+pub mod Breaking
+pub mod OnIndexes
+pub mod Whole

@@ -1,0 +1,10 @@
+pub mod Books
+pub mod Waiting
+pub mod Ending
+pub mod Seen
+pub mod Entries
+pub mod Answers
+pub mod Sealing
+pub mod Committing
+pub mod Follows
+pub mod Keeper
