@@ -1,6 +1,5 @@
 -- Numbers that the desk draws, and those of a client's transactions.
---     next_grows            the next number never falls
---     next_drawn            it rises where a number is drawn, which is the one before it
+--     next_drawn            the next number rises where one is drawn, which is the one before it
 --     below_more            what is below a number is below a greater one
 --     rising_end            one more that is above all others
 --     numbers_end, numbers_started, rising_without, below_without       of the transactions
@@ -29,44 +28,6 @@ use Rattle.idb_desk.specs.Refusals.{is_allowed, is_committed, is_given, is_usabl
 use Rattle.idb_desk.specs.Steps.{after, after_event, after_take, event_for, drawn_whole, after_created, after_left, answer_of, number_of_event}
 use Rattle.client_machine.specs.ClientStates.{ClientTx, started_if}
 use Rattle.client_seats.specs.Seating.{tx_numbers}
-
--- ---- the next number
-whole_grows : (b : DeskBoard) (who : ConnId) (k : TxKind) (name : Option (List ℕ)) → b.scopes.next ≤ (drawn_whole b who k name).scopes.next
-whole_grows b who k None = omega arith
-whole_grows b who k (Some name) = omega arith
-
-event_grows : (b : DeskBoard) (e : ClientEvent) → b.scopes.next ≤ (after_event b e).scopes.next
-event_grows b (event.Upgrade who old new) = whole_grows b who (kind.Upgrade new) (name_asked_by b.clients who)
-event_grows b (event.Blocked who old new) = omega arith
-event_grows b (event.Success who version) = omega arith
-event_grows b (event.Error who name) = omega arith
-event_grows b (event.VersionChange who old new) = omega arith
-event_grows b (event.Closed who) = omega arith
-event_grows b (event.DeleteReady who old) = whole_grows b who kind.Deletion (name_asked_by b.clients who)
-
-take_grows : (d : DeskState) (client : ℕ) (o : Option ClientEvent) → d.board.scopes.next ≤ (after_take d client o).board.scopes.next
-take_grows d client None = omega arith
-take_grows d client (Some e) = event_grows d.board e
-
-create_grows : (d : DeskState) (who : ConnId) (scope : List (List ℕ)) (m : Mode) (name : Option (List ℕ)) (schema : Option SchemaData) → d.board.scopes.next ≤ (after_created d who scope m name schema).board.scopes.next
-create_grows d who scope m None schema = omega arith
-create_grows d who scope m (Some name) None = omega arith
-create_grows d who scope m (Some name) (Some schema) = omega arith
-
-leave_grows : (d : DeskState) (number : ℕ) (committed : Bool) (kept : Option SchemaData) (o : Option DrawnTx) → d.board.scopes.next ≤ (after_left d number committed kept o).board.scopes.next
-leave_grows d number committed kept None = omega arith
-leave_grows d number committed kept (Some t) = omega arith
-
-pub next_grows : (d : DeskState) (t : DeskStep) → d.board.scopes.next ≤ (after d t).board.scopes.next
-unfolding after
-next_grows d (step.Asks who name want) = omega arith
-next_grows d (step.Takes client) = take_grows d client (event_for d client)
-next_grows d (step.Handles client) = omega arith
-next_grows d (step.Closes who) = omega arith
-next_grows d (step.Creates number who scope m durability) = create_grows d who scope m (name_asked_by d.board.clients who) (schema_of d.queues who)
-next_grows d (step.Starts client number) = omega arith
-next_grows d (step.Leaves client number ended kept) = leave_grows d number (is_committed ended) kept (drawn_at d.board.drawn number)
-next_grows d step.Faults = omega arith
 
 -- ---- a number is drawn
 pub record Drew (before after number : ℕ) : Type 0 where

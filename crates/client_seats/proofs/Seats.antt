@@ -28,7 +28,8 @@ use Rattle.client_machine.specs.ClientStates.{OpenAsked, ClientTx, ClientState, 
 use Rattle.client_machine.specs.ClientSteps.{given_by_event, after_event_of}
 use Rattle.client_seats.specs.Seating.{open_names, asked_names, tx_numbers, IsSeated, SitsAlike, ask_step, is_ask_of}
 use Rattle.client_seats.proofs.Keeping.{same_names, names_stay, names_grow}
-use Rattle.client_seats.proofs.Numbers.{next_grows, next_drawn, below_more, below_end, rising_end, numbers_end, numbers_started, rising_without, below_without}
+use Rattle.idb_desk.proofs.Laws.{next_grows}
+use Rattle.client_seats.proofs.Numbers.{next_drawn, below_more, below_end, rising_end, numbers_end, numbers_started, rising_without, below_without}
 
 all_snoc : (d : DeskState) (ts : List DeskStep) (t : DeskStep) → after_all d (ts ++ t ∷ []) ≡ after (after_all d ts) t
 all_snoc d [] t = refl

@@ -10,3 +10,5 @@ mod Sharing
 mod Quiet
 mod Numbered
 mod Pending
+mod Relaxing
+pub mod Laws

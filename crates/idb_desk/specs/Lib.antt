@@ -11,3 +11,4 @@ pub mod Placing
 pub mod Handing
 pub mod Names
 pub mod Databases
+pub mod Durabilities

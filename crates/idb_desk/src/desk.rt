@@ -10,6 +10,7 @@ ghost use Rattle.idb_desk.specs.Steps.{after, answer_of, new_desk, DeskRun, desk
 
 use crate::allowing::{is_allowed, refusal_of_step};
 use crate::board::{Board, Parts};
+use crate::durabilities::{note_relaxed, settle};
 use crate::making::make;
 use crate::places::places_of_schemas;
 use crate::steps::DeskStep;
@@ -20,6 +21,7 @@ use idb_schema::{Schema, Schemas};
 use name_queues::ClientEvent;
 use scope_desk::ScopeDesk;
 use std::alloc::Global;
+use std::collections::BTreeSet;
 use std::marker::Model;
 use std::snapshot::Snapshot;
 
@@ -29,6 +31,7 @@ pub struct Desk {
     pub(crate) opening: Snapshot<Schemas>,
     pub(crate) order: Vec<DeskStep>,
     pub(crate) owed: usize,
+    pub(crate) relaxed: BTreeSet<u64>,
     pub(crate) parts: Parts,
 }
 
@@ -36,6 +39,7 @@ impl Model for Desk {
     ghost use Rattle.std.specs.Prelude.{◌≡◌, ◌≤◌, ◌+◌};
     ghost use Rattle.std.specs.Vec.{vec_len, vec_capacity};
     ghost use Rattle.idb_desk.specs.DeskRoom.{owed_steps};
+    ghost use Rattle.idb_desk.specs.Durabilities.{AreRelaxed};
     ghost use Rattle.idb_desk.specs.Parts.{desk_state_of};
     ghost use Rattle.idb_desk.specs.Steps.{DeskRun, desk_run, IsDeskRun};
 
@@ -47,7 +51,8 @@ impl Model for Desk {
         (desk_state_of a.parts ≡ desk_run (record { opening = a.opening.value; order = a.order.items }))
         × IsDeskRun (record { opening = a.opening.value; order = a.order.items })
         × (owed_steps (desk_state_of a.parts) ≤ a.owed)
-        × (vec_len a.order + a.owed ≤ vec_capacity a.order) };
+        × (vec_len a.order + a.owed ≤ vec_capacity a.order)
+        × AreRelaxed a.relaxed a.order.items };
 }
 
 impl Desk {
@@ -64,6 +69,7 @@ impl Desk {
             opening,
             order,
             owed: 1,
+            relaxed: BTreeSet::new(alloc),
             parts: Parts {
                 queues,
                 board: Board {
@@ -110,7 +116,10 @@ impl Desk {
         ensures unchanged { OnErr result (self.new ≡ self.old) }
         ensures no_memory { OnErr result (wants_memory step ≡ true) }
     {
-        advance(&mut self.order, &mut self.owed, &mut self.parts, step, kept)
+        let added = note_relaxed(&mut self.relaxed, &step)?;
+        let event = advance(&mut self.order, &mut self.owed, &mut self.parts, step, kept);
+        settle(&mut self.relaxed, added, event.is_ok());
+        event
     }
 }
 

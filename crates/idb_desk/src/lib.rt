@@ -10,7 +10,8 @@ mod changes;
 mod clients;
 mod desk;
 mod drawing;
-mod laws;
+mod durabilities;
+mod laws_of_desks;
 mod making;
 mod places;
 mod reads;
@@ -20,7 +21,7 @@ mod waiting;
 
 pub use allowing::{GREATEST_ASK_COUNT, GREATEST_STORE_COUNT, GREATEST_VERSION};
 pub use desk::Desk;
-pub use laws::{desk_laws, item_laws, quiet_laws};
+pub use laws_of_desks::{desk_laws, durability_laws, item_laws, quiet_laws};
 pub use stands::{DeskPlace, DeskRequest, DrawnTx, Stand, TxKind, TxStage};
 pub use steps::DeskStep;
 

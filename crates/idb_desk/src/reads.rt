@@ -8,6 +8,7 @@ ghost use Rattle.connection_queues.specs.Machine.{schema_of};
 ghost use Rattle.name_queues.specs.Mails.{events_of};
 ghost use Rattle.idb_desk.specs.Databases.{database_in, database_under};
 ghost use Rattle.idb_desk.specs.Desks.{drawn_at, asks_of, request_at};
+ghost use Rattle.idb_desk.specs.Durabilities.{durability_drawn};
 ghost use Rattle.idb_desk.specs.Refusals.{has_some};
 ghost use Rattle.idb_desk.specs.Steps.{desk_run, event_for};
 ghost use Rattle.idb_desk.specs.Tokens.{token_of};
@@ -20,6 +21,7 @@ use crate::steps::DeskStep;
 use clone_values::Text;
 use idb_base::NoMemory;
 use idb_calls::{PendingLines, Tokens};
+use idb_keys::Durability;
 use idb_schema::Schema;
 use name_queues::{ClientEvent, ConnId, Named};
 use scope_desk::MayStart;
@@ -123,6 +125,17 @@ impl Desk {
         ensures { result ≡ drawn_at (desk_run self.now).board.drawn number }
     {
         crate::drawing::drawn_at(self.parts.board.drawn.as_slice(), number)
+    }
+
+    /// The durability with which the transaction of this number was created; an upgrade or a deletion is strict.
+    pub fn durability(&self, number: u64) -> Durability
+        ensures { result ≡ durability_drawn self.now.order number }
+    {
+        if self.relaxed.contains(&number) {
+            Durability::Relaxed
+        } else {
+            Durability::Strict
+        }
     }
 
     /// The least unfinished transaction. It looks at no other.

@@ -4,6 +4,7 @@
 --     restoring, all_restored         one entry more is as it was;  all are
 --     settling, settling_past, all_settled      one more is what a later transaction finds, or goes;  all are
 --     given_alike, given_now, given_of          of stores that are handed over
+--     sound_now             each store that stands is as the standard asks
 use Rattle.std.proofs.Common.{◌≡◌, ℕ, zero, suc, ◌+◌, ◌<◌, true, false, List, [], ◌∷◌, length, take, get_or, slice_set, remove, slice_get, Option, Some, None, is_some, option_map, IfSome, refl, sym, ap, ◌∙◌, subst, arith}
 use Rattle.std.proofs.lemmas.List.{get_or-set_same}
 use Rattle.std.proofs.lemmas.Option.{slice_get-get_or, same_Some, none-some}
@@ -218,6 +219,15 @@ module _ {T R W : Type 0} where
   pub sound_stores : (es : List (Name × Slot T R W)) → AreGiven es → AreStores (stores_now es)
   sound_stores es given name store e =
       sound_at name (find name_cmp name es) store (λ slot f. all_found name_cmp one_name IsGiven name es slot given.sound f) (sym (get_shown names_total slot_now es name given.sorted) ∙ e)
+
+  -- ---- while it runs
+  named_now : (name : Name) (there : Option (Slot T R W)) (store : Store) → ((slot : Slot T R W) → there ≡ Some slot → IsSlotNamed name slot) → option_and_then slot_now there ≡ Some store → IsStoreNamed name store
+  named_now name None store each e = cc
+  named_now name (Some slot) store each e = subst (IsNamedIf name) e (each slot refl).0
+
+  pub sound_now : (es : List (Name × Slot T R W)) → AreSlots es → AreStores (stores_now es)
+  sound_now es slots name store e =
+      named_now name (find name_cmp name es) store (λ slot f. all_found name_cmp one_name IsSlotNamed name es slot slots.named f) (sym (get_shown names_total slot_now es name slots.sorted) ∙ e)
 
   pub none_stand : (es : List (Name × Slot T R W)) → es ≡ [] → stores_now es ≡ finite.empty
   none_stand es e = ap stores_now e ∙ finite.same_map names_total one_name (finite.from_sorted {R = name_cmp} []) finite.empty (λ q. finite.get-from_sorted name_cmp [] q tt ∙ sym (finite.get-empty name_cmp q))

@@ -7,7 +7,7 @@ ghost use Rattle.idb_schema.specs.Definitions.{IsStoreInfo, IsIndexInfo};
 ghost use Rattle.idb_calls.specs.Deltas.{CreateStore, DropStore, CreateIndex, DropIndex};
 ghost use Rattle.item_changes.specs.Items.{stores_in};
 ghost use Rattle.item_changes.specs.Effects.{new_store, at_version};
-ghost use Rattle.idb_databases.specs.Stores.{store_alone, IsStoreNamed};
+ghost use Rattle.idb_databases.specs.Stores.{store_alone, IsStoreNamed, AreStores};
 ghost use Rattle.store_requests.specs.Runs.{storing, deleting, clearing};
 ghost use Rattle.list_machine.specs.Requests.{store_under};
 ghost use Rattle.list_machine.specs.Entries.{is_broken_by};
@@ -78,6 +78,13 @@ impl<T: Tables> LiveStores<T> {
         ensures named { IfSome result (λ store. IsStoreNamed name.now store.now.store) }
     {
         find_now(&self.items, name)
+    }
+
+    /// Each store is as the standard asks, at every moment. It does nothing.
+    pub fn stand_sound(&self)
+        ensures { AreStores (stores_in self.now.database) }
+    {
+        let _ = self.items.len();
     }
 
     /// The version of the database now; `None` where it doesn't exist. It takes no memory.

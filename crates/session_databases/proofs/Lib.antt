@@ -1,2 +1,4 @@
 pub mod Parts
 pub mod Seen
+pub mod Opened
+pub mod Laws

@@ -1,13 +1,19 @@
 // The databases of a session.
-ghost use Rattle.std.specs.Prelude.{◌≡◌, None, option_map, IfOk, OnOk};
+ghost use Rattle.std.specs.Prelude.{◌≡◌, Some, None, option_map, IfOk, OnOk};
 ghost use Rattle.std.specs.FinMap as finite;
+ghost use Rattle.item_changes.specs.Items.{Name, Database};
 ghost use Rattle.item_changes.specs.Scopes.{part_of};
+ghost use Rattle.idb_databases.specs.Stores.{AreStores};
 ghost use Rattle.live_stores.specs.Live.{database_at};
 ghost use Rattle.session_databases.specs.Parts.{scope_of, without_part, with_part};
 
-use crate::entries::{SessionDatabase, give_some, give_whole, take_some, take_whole, version_in};
+use crate::entries::{
+    SessionDatabase, give_some, give_whole, look_at_stores, take_some, take_whole, version_in,
+};
+use crate::opening::session_entries;
 use clone_values::{Text, Texts};
 use idb_base::NoMemory;
+use idb_databases::Databases;
 use idb_keys::Mode;
 use index_tables::Tables;
 use live_stores::Stores;
@@ -52,6 +58,22 @@ impl<T: Tables> SessionDatabases<T> {
             alloc,
             items: Vec::new(alloc),
         }
+    }
+
+    /// The databases that stand when a session begins. Stores move, and none is copied; what was changed in them before can't be
+    /// undone any more.
+    pub fn from_databases(alloc: Global, databases: Databases<T>) -> Result<Self, NoMemory>
+        ensures { IfOk result (λ d. d ≡ databases) }
+    {
+        let items = session_entries(alloc, databases)?;
+        Ok(SessionDatabases { alloc, items })
+    }
+
+    /// Each store is as the standard asks, and stands under its own name: a look at each database tells. It takes no memory.
+    pub fn stores_are_sound(&self)
+        ensures { (name : Name) (d : Database) → finite.get self.now name ≡ Some d → AreStores d.stores }
+    {
+        look_at_stores(&self.items);
     }
 
     /// The version of the database of this name; `None` where there is none. It takes no memory.

@@ -2,9 +2,11 @@
 ghost use Rattle.std.specs.Prelude.{◌≡◌, None, option_map, IfOk, OnOk, OnErr};
 ghost use Rattle.std.specs.FinMap as finite;
 ghost use Rattle.std.specs.FinMap.{find, put};
+ghost use Rattle.std.specs.List.{AllByRecursion};
 ghost use Rattle.sorted_table.specs.Tables.{IsSorted, without};
 ghost use Rattle.item_changes.specs.Items.{name_cmp, changed_at, stood_at};
 ghost use Rattle.item_changes.specs.Scopes.{with_stores_among};
+ghost use Rattle.idb_databases.specs.Stores.{AreStores};
 ghost use Rattle.live_stores.specs.Live.{database_at};
 ghost use Rattle.session_databases.specs.Parts.{without_stores_among, joined_with};
 ghost use Rattle.session_databases.specs.Sessions.{session_items};
@@ -66,6 +68,15 @@ pub(crate) fn version_in<T: Tables>(
     match find_in(items, name) {
         Some(d) => Some(d.version),
         None => None,
+    }
+}
+
+/// A look at each database, by which each of its stores is as the standard asks.
+pub(crate) fn look_at_stores<T: Tables>(items: &[(Text, SessionDatabase<T>)])
+    ensures { AllByRecursion (λ e. AreStores e.1.stores) items.now }
+{
+    for entry in items {
+        let _count = entry.1.stores.len();
     }
 }
 

@@ -52,7 +52,7 @@ impl<D: Disk> Model for Book<D> {
 }
 
 impl<D: Disk> Book<D> {
-    ghost use Rattle.std.specs.Prelude.{◌≡◌, ◌-◌, ◌^◌, ◌<◌, ◌≤◌, [], None};
+    ghost use Rattle.std.specs.Prelude.{◌≡◌, ◌-◌, ◌^◌, ◌<◌, ◌≤◌, [], length, None};
     ghost use Rattle.disk_trait.specs.Disk.{EachImage, LeavesOnly};
     ghost use Rattle.gate_log.specs.Log.{disk_of, live_of, failed_at};
     ghost use Rattle.log_history.specs.Batching.{IsBelowLimits, batch_payload};
@@ -160,6 +160,13 @@ impl<D: Disk> Book<D> {
         ensures below { IsBelowLimits self.now.log.waiting }
     {
         failed(&self.held.place)
+    }
+
+    /// How many transactions have finished.
+    pub fn finished_count(&self) -> usize
+        ensures { result ≡ length self.now.finished }
+    {
+        self.finished.len()
     }
 
     /// The disk, the numbers of the transactions that finished, and those of the commits among them, both in the order in which they

@@ -3,6 +3,7 @@ ghost use Rattle.std.specs.Prelude.{◌≡◌, ◌+◌, nat_le, false, length, O
 ghost use Rattle.list_machine.specs.declared.limits.TheConstants.{GREATEST_REQUEST_COUNT, GREATEST_VALUE_BYTES};
 ghost use Rattle.idb_calls.specs.declared.traces.TheConstants.{GREATEST_DELTA_COUNT};
 ghost use Rattle.item_changes.specs.Items.{stores_in};
+ghost use Rattle.idb_databases.specs.Stores.{AreStores};
 ghost use Rattle.tx_courses.specs.Courses.{restored, course_opened, is_past};
 
 use crate::parts::CourseParts;
@@ -95,6 +96,13 @@ impl<T: Tables> Course<T> {
         ensures { result.now ≡ self.now.schema }
     {
         &self.schema
+    }
+
+    /// Each store is as the standard asks, at every moment. It does nothing.
+    pub fn stand_sound(&self)
+        ensures { AreStores (stores_in self.now.database) }
+    {
+        self.stores.stand_sound();
     }
 
     /// The database before is back, and no change is left. It takes no memory.

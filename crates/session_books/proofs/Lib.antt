@@ -1,0 +1,5 @@
+pub mod Commits
+pub mod Moments
+pub mod Answered
+pub mod Laws
+pub mod KeeperLemmas
