@@ -3,8 +3,10 @@
 --     IsLegal               client runs, desk run, serial results, and the order in which transactions finished
 --     items_at_end          the databases that the session leaves
 --     commits_of            the transactions that committed and may write, as they finished
+--     record_of_entry, records_logged       what the log is told of a transaction;  of those that committed and may write
+--     commit_at, commits_at         a record with the durability of its transaction, by the order of steps;  each of them
 --     IsReportOf            a report says what a legal session did
---     IsLegalReport         there is such a session
+--     IsLegalReport         there is such a session, with these commits
 use Rattle.std.specs.Prelude.{◌≡◌, ℕ, Bool, true, false, not, ◌&&◌, List, [], ◌∷◌, map, filter, if◌then◌else◌, ⊤}
 use Rattle.std.specs.Bool.{MatchBool}
 use Rattle.std.specs.List.{list_any, AllByRecursion}
@@ -13,10 +15,13 @@ use Rattle.idb_calls.specs.declared.traces.Outcome.{Outcome}
 use Rattle.idb_calls.specs.declared.traces.Outcome.TheVariants.{Committed, Aborted}
 use Rattle.idb_desk.specs.declared.steps.DeskStep.{DeskStep}
 use Rattle.idb_desk.specs.declared.steps.DeskStep.TheVariants as step
+use Rattle.idb_desk.specs.Durabilities.{durability_drawn}
 use Rattle.idb_desk.specs.Steps.{desk_run, IsDeskRun}
 use Rattle.idb_desk.specs.Tokens.{token_of}
 use Rattle.idb_desk.specs.Waiting.{pending_of}
 use Rattle.item_changes.specs.Items.{Name, Database, Items}
+use Rattle.record_bytes.specs.declared.records.LogRecord.{LogRecord}
+use Rattle.log_history.specs.Batching.{Commit, is_strict}
 use Rattle.request_lists.specs.Fronts.{is_read_only_mode}
 use Rattle.report_lines.specs.declared.reports.Report.{Report}
 use Rattle.report_lines.specs.declared.reports.Has.{Has}
@@ -75,6 +80,19 @@ may_write (Deletion name) = true
 abbrev pub commits_of : List (FinishEntry Script Note) → List (FinishEntry Script Note)
 commits_of finish = filter (λ e. did_commit e.outcome && may_write e.body) finish
 
+-- ---- the commits, as a log has them
+abbrev pub record_of_entry : FinishEntry Script Note → LogRecord
+record_of_entry e = record { number = e.number; deltas = e.changes }
+
+abbrev pub records_logged : List (FinishEntry Script Note) → List LogRecord
+records_logged finish = map record_of_entry (commits_of finish)
+
+abbrev pub commit_at : List DeskStep → LogRecord → Commit
+commit_at order r = record { strict = is_strict (durability_drawn order r.number); logged = r }
+
+abbrev pub commits_at : List DeskStep → List LogRecord → List Commit
+commits_at order records = map (commit_at order) records
+
 abbrev pub own_end : Bool → ReportEnd
 own_end drop_end = if drop_end then end.Drop else end.Flush
 
@@ -92,9 +110,10 @@ pub record IsReportOf (of : ScriptSession) (number : ℕ) (items : Items) (h : S
   pub pending : report.pending ≡ pending_of (desk_run (desk_of h))
   pub end : report.end ≡ end_of_session of h
 
--- the report of the session of this number, from these databases to those
-pub record IsLegalReport (session : ScriptSession) (number : ℕ) (opening : Items) (report : Report) (closing : Items) : Type 0 where
+-- the report of the session of this number, from these databases to those, with these commits
+pub record IsLegalReport (session : ScriptSession) (number : ℕ) (opening : Items) (report : Report) (commits : List Commit) (closing : Items) : Type 0 where
   pub history : SessionHistory
   pub legal : IsLegal session opening history
   pub told : IsReportOf session number opening history report
+  pub logged : commits ≡ commits_at history.order (records_logged history.finish)
   pub left : closing ≡ items_at_end opening history

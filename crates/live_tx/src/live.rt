@@ -1,6 +1,7 @@
 // Live transactions.
 ghost use Rattle.std.specs.Prelude.{◌≡◌, ◌≢◌, ◌++◌, [], List, OnOk};
 ghost use Rattle.item_changes.specs.Items.{stores_in};
+ghost use Rattle.idb_databases.specs.Stores.{AreStores};
 ghost use Rattle.list_machine.specs.declared.steps.Step.TheVariants as steps;
 ghost use Rattle.list_machine.specs.Machine.{Turn};
 ghost use Rattle.list_machine.specs.Seeing.{state_map, pulled_reacts, pulled_writes};
@@ -117,6 +118,13 @@ impl<T: Tables, H: Handler> LiveTx<T, H> {
         ensures { result.now ≡ self.now.state.front.schema }
     {
         self.front.left_schema()
+    }
+
+    /// Each store is as the standard asks, at every moment. It does nothing.
+    pub fn stand_sound(&self)
+        ensures { AreStores (stores_in self.now.state.database) }
+    {
+        self.course.stand_sound();
     }
 
     /// Where it stands.

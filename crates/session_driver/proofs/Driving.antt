@@ -20,7 +20,7 @@ use Rattle.idb_desk.specs.Desks.{DeskState, drawn_at}
 use Rattle.idb_desk.specs.Refusals.{has_some, is_allowed}
 use Rattle.idb_desk.specs.declared.steps.DeskStep.TheVariants as step
 use Rattle.idb_desk.specs.Steps.{DeskRun, desk_run, IsDeskRun}
-use Rattle.item_changes.specs.Items.{Database, Items, name_cmp}
+use Rattle.item_changes.specs.Items.{Items}
 use Rattle.script_statements.specs.declared.script.Client.{Client}
 use Rattle.script_statements.specs.declared.script.ScriptSession.{ScriptSession}
 use Rattle.script_runs.specs.declared.notes.Note.{Note}
@@ -32,8 +32,9 @@ use Rattle.client_ties.specs.Unfinished.{least_of}
 use Rattle.client_ties.proofs.Laws.{IsSound, least_unfinished, first_drawn}
 use Rattle.legal_sessions.specs.Histories.{ShowsItems}
 use Rattle.legal_sessions.specs.Legal.{has_of, IsLegalReport}
+use Rattle.report_lines.specs.declared.reports.Has.{Has}
 use Rattle.report_lines.specs.declared.reports.Report.{Report}
-use Rattle.session_states.specs.Sessions.{SeatNow, SessionNow, fresh_seats, fresh_session, IsAtEnd, report_now}
+use Rattle.session_states.specs.Sessions.{SeatNow, SessionNow, fresh_seats, fresh_session, commit_numbers, IsAtEnd, report_now}
 use Rattle.session_states.specs.Telling.{RunningTx}
 use Rattle.session_states.specs.UnderWay.{IsUnderWay}
 use Rattle.session_states.specs.Moves.{HasReady}
@@ -41,12 +42,11 @@ use Rattle.session_facts.specs.Fitting.{AreFew, FitsDesk, IsFitting}
 use Rattle.session_facts.specs.Showing.{IsShown}
 use Rattle.task_statements.specs.Offices.{OfficeState}
 use Rattle.session_driver.specs.declared.choosing.NextMove.TheVariants as move
-use Rattle.session_driver.specs.declared.finished.Finished.{Finished}
 use Rattle.session_driver.specs.declared.seats.Seat.{Seat}
 use Rattle.session_driver.specs.Choosing.{is_ready, move_of, next_move, IsDue, IsMoveOf, IsChosen}
 use Rattle.session_driver.specs.Measures.{beyond_memory, left_to, seats_left, session_left}
 use Rattle.session_driver.specs.Reporting.{lines_seen, report_told}
-use Rattle.session_driver.specs.Scenes.{scene_of, IsSceneAt, IsDriven, LeadsTo, StandsOn}
+use Rattle.session_driver.specs.Scenes.{DoneNow, scene_of, IsSceneAt, IsOpening, IsDriven, LeadsTo, StandsOn}
 use Rattle.session_driver.specs.Seats.{seat_seen, script_of_seat, session_seen, IsDriving}
 use Rattle.session_driver.proofs.Lessening.{seat_less}
 use Rattle.session_driver.proofs.Places.{put_back_is, no_place, place_found}
@@ -72,9 +72,9 @@ seated_with s new after = record { script = s.script; client = new.client; notes
 abbrev pub office_at : Seat → DeskRun → OfficeState
 office_at s r = record { blocks = (script_of_seat s).blocks; client = s.client; run = r }
 
-scene_at : (session : ScriptSession) (opening : Items) (r : DeskRun) (seats : List Seat) (done : Finished) (items : Items) (place : ℕ) (s : Seat) → IsDriving session opening r seats done items → slice_get seats place ≡ Some s
+scene_at : (session : ScriptSession) (r : DeskRun) (seats : List Seat) (done : DoneNow) (items : Items) (place : ℕ) (s : Seat) → IsDriving session r seats done items → slice_get seats place ≡ Some s
     → IsSceneAt session (session_seen r seats done items) place (scene_of (office_at s r) s.notes done items)
-scene_at session opening r seats done items place s drives at = record {
+scene_at session r seats done items place s drives at = record {
   script = script_of_seat s;
   script_at = ap (λ (cs : List Client). slice_get cs place) (sym drives.scripts) ∙ slice_get-map script_of_seat seats place ∙ ap (option_map script_of_seat) at;
   blocks = refl;
@@ -86,27 +86,26 @@ scene_at session opening r seats done items place s drives at = record {
 }
 
 -- where it stands before
-pub stands_there : (session : ScriptSession) (opening : Items) (r : DeskRun) (seats : List Seat) (done : Finished) (items : Items) (place : ℕ) (s : Seat) → IsDriving session opening r seats done items → slice_get seats place ≡ Some s
+pub stands_there : (session : ScriptSession) (r : DeskRun) (seats : List Seat) (done : DoneNow) (items : Items) (place : ℕ) (s : Seat) → IsDriving session r seats done items → slice_get seats place ≡ Some s
     → StandsOn None (scene_of (office_at s r) s.notes done items)
-stands_there session opening r seats done items place s drives at = record {
+stands_there session r seats done items place s drives at = record {
   session = session;
-  opening = opening;
   now = session_seen r seats done items;
   place = place;
-  at = scene_at session opening r seats done items place s drives at;
+  at = scene_at session r seats done items place s drives at;
   driven = drives.driven;
 }
 
-pub client_moved : (session : ScriptSession) (opening : Items) (r : DeskRun) (seats out : List Seat) (done last : Finished) (items left : Items) (place : ℕ) (s : Seat) (new : OfficeState) (after : List Note)
-    → IsDriving session opening r seats done items → slice_get seats place ≡ Some s
+pub client_moved : (session : ScriptSession) (r : DeskRun) (seats out : List Seat) (done last : DoneNow) (items left : Items) (place : ℕ) (s : Seat) (new : OfficeState) (after : List Note)
+    → IsDriving session r seats done items → slice_get seats place ≡ Some s
     → LeadsTo None None (scene_of (office_at s r) s.notes done items) (scene_of new after last left)
-    → out ≡ slice_set seats place (seated_with s new after) → IsDriving session opening new.run out last left
-client_moved session opening r seats out done last items left place s new after drives at leads is =
+    → out ≡ slice_set seats place (seated_with s new after) → IsDriving session new.run out last left
+client_moved session r seats out done last items left place s new after drives at leads is =
     let now : SessionNow = session_seen r seats done items in
     let seats_are : slice_set (map seat_seen seats) place (seat_seen (seated_with s new after)) ≡ map seat_seen out = sym (map-set seat_seen seats place (seated_with s new after)) ∙ ap (map seat_seen) (sym is) in
     record {
-      driven = subst (λ (ss : List SeatNow). IsDriven session opening (record { run = new.run; seats = ss; finish = last.finish; commits = last.commits; items = left }) None) seats_are
-          (leads.leads session opening now place (scene_at session opening r seats done items place s drives at) drives.driven);
+      driven = subst (λ (ss : List SeatNow). IsDriven session last.opening (record { run = new.run; seats = ss; finish = last.finish; commits = last.commits; items = left }) None) seats_are
+          (leads.leads session now place (scene_at session r seats done items place s drives at) drives.driven);
       scripts = ap (map script_of_seat) is ∙ map-set_same script_of_seat seats place (seated_with s new after) s (ap script_of_seat (sym (get_or_from_slice_get seats place s s at))) ∙ drives.scripts;
     }
 
@@ -150,12 +149,12 @@ abbrev ReadyLaw : Type 0
 ReadyLaw = (session : ScriptSession) (opening : Items) (now : SessionNow) (number : ℕ) (t : DrawnTx) → IsUnderWay session opening now None → least_of (desk_run now.run) ≡ Some number
     → may_start (desk_run now.run).board.scopes number ≡ Go → drawn_at (desk_run now.run).board.drawn number ≡ Some t → HasReady session now number t
 
-pub chosen_there : ReadyLaw → (session : ScriptSession) (opening : Items) (r : DeskRun) (seats : List Seat) (done : Finished) (items : Items) (number : ℕ) (t : DrawnTx) → IsDriving session opening r seats done items
+pub chosen_there : ReadyLaw → (session : ScriptSession) (r : DeskRun) (seats : List Seat) (done : DoneNow) (items : Items) (number : ℕ) (t : DrawnTx) → IsDriving session r seats done items
     → next_move (desk_run r) seats ≡ move.Transaction number → may_start (desk_run r).board.scopes number ≡ Go → drawn_at (desk_run r).board.drawn number ≡ Some t
     → (1 ≤ t.who.client) × IsChosen r seats (t.who.client - 1) (Some number)
-chosen_there law session opening r seats done items number t drives next go drawn =
+chosen_there law session r seats done items number t drives next go drawn =
     let n = transaction_next (desk_run r) seats number next in
-    let h = law session opening (session_seen r seats done items) number t drives.driven.under_way n.1 go drawn in
+    let h = law session done.opening (session_seen r seats done items) number t drives.driven.under_way n.1 go drawn in
     let s = seat_behind seats h.place h.seat h.seat_at in
     let place : h.place ≡ t.who.client - 1 = one_less h.place t.who.client h.client in
     let free : is_ready (desk_run r) s.0 ≡ false = all_at (λ (x : Seat). is_ready (desk_run r) x ≡ false) seats h.place s.0 (no_place (is_ready (desk_run r)) seats n.0) s.1.0 in
@@ -192,26 +191,19 @@ FreshFitsLaw = (session : ScriptSession) (schemas : List SchemaData) (opening : 
 abbrev FreshShowsLaw : Type 0
 FreshShowsLaw = (session : ScriptSession) (schemas : List SchemaData) (opening : Items) → AreOpenable schemas → ShowsItems schemas opening → IsShown (fresh_session session.clients schemas opening)
 
-abbrev no_databases : Items
-no_databases = finite.empty
-
-shows_none : ShowsItems [] no_databases
-shows_none = record {
-  each = λ name d at. absurd (let none = finite.get-empty {X = Database} name_cmp name in cc);
-  only = tt;
-}
-
-pub begins_so : FreshLaw → FreshFitsLaw → FreshShowsLaw → (session : ScriptSession) (r : DeskRun) (seats : List Seat) (done : Finished) (items : Items)
-    → map seat_seen seats ≡ fresh_seats 1 session.clients → map script_of_seat seats ≡ session.clients → r ≡ record { opening = []; order = [] } → done.finish ≡ [] → done.commits ≡ [] → items ≡ no_databases
-    → IsDriving session no_databases r seats done items
-begins_so fresh fits shows session r seats done items seats_are scripts run finish commits none =
-    let same : fresh_session session.clients [] no_databases ≡ session_seen r seats done items = cc in
-    let driven : IsDriven session no_databases (fresh_session session.clients [] no_databases) None = record {
-      under_way = fresh session [] no_databases shows_none;
-      fits = fits session [] no_databases tt tt;
-      shown = shows session [] no_databases tt shows_none;
+pub begins_so : FreshLaw → FreshFitsLaw → FreshShowsLaw → (session : ScriptSession) (r : DeskRun) (seats : List Seat) (done : DoneNow) (items : Items) (schemas : List SchemaData)
+    → map seat_seen seats ≡ fresh_seats 1 session.clients → map script_of_seat seats ≡ session.clients → r ≡ record { opening = schemas; order = [] } → done.finish ≡ [] → done.commits ≡ [] → items ≡ done.opening
+    → ShowsItems schemas done.opening → AreOpenable schemas → AreFew schemas → IsOpening done.opening → IsDriving session r seats done items
+begins_so fresh fits shows session r seats done items schemas seats_are scripts run finish commits same_items shown openable few opened =
+    let same : fresh_session session.clients schemas done.opening ≡ session_seen r seats done items = cc in
+    let driven : IsDriven session done.opening (fresh_session session.clients schemas done.opening) None = record {
+      under_way = fresh session schemas done.opening shown;
+      fits = fits session schemas done.opening openable few;
+      shown = shows session schemas done.opening openable shown;
+      opened = opened;
+      logged = refl;
     } in
-    record { driven = subst (λ (n : SessionNow). IsDriven session no_databases n None) same driven; scripts = scripts }
+    record { driven = subst (λ (n : SessionNow). IsDriven session done.opening n None) same driven; scripts = scripts }
 
 -- ---- the end
 no_tasks : (d : DeskState) (seats : List Seat) → AllByRecursion (λ (s : Seat). is_ready d s ≡ false) seats → AllByRecursion (λ (s : SeatNow). s.client.tasks ≡ []) (map seat_seen seats)
@@ -222,7 +214,7 @@ no_events : (d : DeskState) (seats : List Seat) → AllByRecursion (λ (s : Seat
 no_events d [] all = tt
 no_events d (s ∷ seats) all = (has_none (events_of d.queues.mails s.client.number) (neither (has_some s.client.tasks) (has_some (events_of d.queues.mails s.client.number)) all.0).1, no_events d seats all.1)
 
-pub ends_so : (r : DeskRun) (seats : List Seat) (done : Finished) (items : Items) → next_move (desk_run r) seats ≡ move.Nothing → IsAtEnd (session_seen r seats done items)
+pub ends_so : (r : DeskRun) (seats : List Seat) (done : DoneNow) (items : Items) → next_move (desk_run r) seats ≡ move.Nothing → IsAtEnd (session_seen r seats done items)
 ends_so r seats done items e =
     let h = nothing_left (position (is_ready (desk_run r)) seats) (least_of (desk_run r)) e in
     let all = no_place (is_ready (desk_run r)) seats h.0 in
@@ -245,8 +237,8 @@ chosen_due r seats place number s chosen at = subst (λ (x : Seat). IsMoveOf r x
     same a b e = cc
 
 -- it sat at the desk
-pub seat_sits : (session : ScriptSession) (opening : Items) (r : DeskRun) (seats : List Seat) (done : Finished) (items : Items) (place : ℕ) (s : Seat) → IsDriving session opening r seats done items → slice_get seats place ≡ Some s → IsSeated s.client r
-seat_sits session opening r seats done items place s drives at =
+pub seat_sits : (session : ScriptSession) (r : DeskRun) (seats : List Seat) (done : DoneNow) (items : Items) (place : ℕ) (s : Seat) → IsDriving session r seats done items → slice_get seats place ≡ Some s → IsSeated s.client r
+seat_sits session r seats done items place s drives at =
     (all_at (λ (x : SeatNow). FitsDesk r x.client) (map seat_seen seats) place (seat_seen s) drives.driven.fits.seats (slice_get-map seat_seen seats place ∙ ap (option_map seat_seen) at)).seated
 
 module _ (seats out : List Seat) (place : ℕ) (s : Seat) (new : OfficeState) (after : List Note) (client : ClientState) (at : slice_get seats place ≡ Some s) (client_is : client ≡ new.client)
@@ -254,47 +246,38 @@ module _ (seats out : List Seat) (place : ℕ) (s : Seat) (new : OfficeState) (a
   put_so : out ≡ slice_set seats place (seated_with s new after)
   put_so = out_is ∙ ap (λ (c : ClientState). insert (remove seats place) place (record { script = s.script; client = c; notes = after })) client_is ∙ put_back_is seats place (seated_with s new after) (slice_get_within seats place s at)
 
-  pub client_back : (session : ScriptSession) (opening : Items) (r : DeskRun) (done last : Finished) (items left : Items) (office : OfficeState) (desk : DeskRun) → IsDriving session opening r seats done items → office ≡ office_at s r
-      → LeadsTo None None (scene_of office s.notes done items) (scene_of new after last left) → desk ≡ new.run → IsDriving session opening desk out last left
-  client_back session opening r done last items left office desk drives office_is leads desk_is =
-      subst (λ (q : DeskRun). IsDriving session opening q out last left) (sym desk_is)
-      (client_moved session opening r seats out done last items left place s new after drives at
+  pub client_back : (session : ScriptSession) (r : DeskRun) (done last : DoneNow) (items left : Items) (office : OfficeState) (desk : DeskRun) → IsDriving session r seats done items → office ≡ office_at s r
+      → LeadsTo None None (scene_of office s.notes done items) (scene_of new after last left) → desk ≡ new.run → IsDriving session desk out last left
+  client_back session r done last items left office desk drives office_is leads desk_is =
+      subst (λ (q : DeskRun). IsDriving session q out last left) (sym desk_is)
+      (client_moved session r seats out done last items left place s new after drives at
       (subst (λ (o : OfficeState). LeadsTo None None (scene_of o s.notes done items) (scene_of new after last left)) office_is leads) put_so)
 
-  pub less_left : (done last : Finished) (r : DeskRun) (office : OfficeState) → office ≡ office_at s r
-      → left_to new.client after + (beyond_memory - length last.finish) < left_to office.client s.notes + (beyond_memory - length done.finish) → session_left out last < session_left seats done
+  pub less_left : (done last : DoneNow) (r : DeskRun) (office : OfficeState) → office ≡ office_at s r
+      → left_to new.client after + (beyond_memory - length last.finish) < left_to office.client s.notes + (beyond_memory - length done.finish) → session_left out last.finish < session_left seats done.finish
   less_left done last r office office_is less =
       subst (λ (ss : List Seat). seats_left ss + (beyond_memory - length last.finish) < seats_left seats + (beyond_memory - length done.finish)) (sym put_so)
       (seat_less seats place s (seated_with s new after) (beyond_memory - length done.finish) (beyond_memory - length last.finish) at
       (subst (λ (o : OfficeState). left_to new.client after + (beyond_memory - length last.finish) < left_to o.client s.notes + (beyond_memory - length done.finish)) office_is less))
 
 -- ---- the report
-no_length : {X : Type 0} (xs : List X) → length xs ≡ 0 → xs ≡ []
-no_length [] e = refl
-no_length (x ∷ xs) e = absurd (omega arith)
-
-no_opening : map has_of (finite.entries no_databases) ≡ []
-no_opening = ap (map has_of) (no_length (finite.entries no_databases) (sym (finite.len-entries no_databases) ∙ finite.len-empty name_cmp Database))
-
 lines_same : (seats : List Seat) → map lines_seen seats ≡ map (λ (s : SeatNow). written_from 0 s.notes) (map seat_seen seats)
 lines_same [] = refl
 lines_same (s ∷ seats) = ap (λ lines. written_from 0 s.notes ∷ lines) (lines_same seats)
 
-pub tells_so : (session : ScriptSession) (number : ℕ) (r : DeskRun) (seats : List Seat) (done : Finished) (items : Items) (drop_end : Bool) → drop_end ≡ session.drop_end
-    → report_now session number no_databases (session_seen r seats done items) ≡ report_told r seats done number drop_end
-tells_so session number r seats done items drop_end is =
-    let opening = no_opening in
+pub tells_so : (session : ScriptSession) (number : ℕ) (r : DeskRun) (seats : List Seat) (done : DoneNow) (items : Items) (lines : List Has) (drop_end : Bool) → drop_end ≡ session.drop_end → lines ≡ map has_of (finite.entries done.opening)
+    → report_now session number done.opening (session_seen r seats done items) ≡ report_told r seats lines done.finish (commit_numbers done.commits) number drop_end
+tells_so session number r seats done items opened drop_end is opening =
     let lines = lines_same seats in
     cc
 
 abbrev LegalLaw : Type 0
 LegalLaw = (session : ScriptSession) (number : ℕ) (opening : Items) (now : SessionNow) (running : Option RunningTx) → IsUnderWay session opening now running → IsAtEnd now
-    → IsLegalReport session number opening (report_now session number opening now) now.items
+    → IsLegalReport session number opening (report_now session number opening now) now.commits now.items
 
-pub session_legal : LegalLaw → (session : ScriptSession) (number : ℕ) (r : DeskRun) (seats : List Seat) (done : Finished) (items : Items) (drop_end : Bool) (report : Report) → IsDriving session no_databases r seats done items → IsAtEnd (session_seen r seats done items)
-    → drop_end ≡ session.drop_end → report ≡ report_told r seats done number drop_end → (closing : Items) × IsLegalReport session number no_databases report closing
-session_legal law session number r seats done items drop_end report drives at_end end_is report_is = (
-  items,
-  subst (λ (told : Report). IsLegalReport session number no_databases told items) (tells_so session number r seats done items drop_end end_is ∙ sym report_is)
-      (law session number no_databases (session_seen r seats done items) None drives.driven.under_way at_end),
-)
+pub session_legal : LegalLaw → (session : ScriptSession) (number : ℕ) (r : DeskRun) (seats : List Seat) (done : DoneNow) (items : Items) (lines : List Has) (drop_end : Bool) (report : Report) → IsDriving session r seats done items → IsAtEnd (session_seen r seats done items)
+    → drop_end ≡ session.drop_end → lines ≡ map has_of (finite.entries done.opening) → report ≡ report_told r seats lines done.finish (commit_numbers done.commits) number drop_end
+    → IsLegalReport session number done.opening report done.commits items
+session_legal law session number r seats done items lines drop_end report drives at_end end_is lines_are report_is =
+    subst (λ (told : Report). IsLegalReport session number done.opening told done.commits items) (tells_so session number r seats done items lines drop_end end_is lines_are ∙ sym report_is)
+    (law session number done.opening (session_seen r seats done items) None drives.driven.under_way at_end)

@@ -31,6 +31,8 @@ use Rattle.session_states.specs.Moves.{Moves, entry_ran, entry_dropped}
 use Rattle.session_facts.specs.Fitting.{IsFitting}
 use Rattle.session_facts.specs.Showing.{IsShown, IsSoundKept}
 use Rattle.session_driver.specs.Scenes.{IsDriven}
+use Rattle.session_driver.specs.Running.{LeavesSound}
+use Rattle.session_driver.proofs.Logging.{LogLaws, finish_logged, cancel_logged}
 
 -- ---- a task
 abbrev UnderTask : Type 0
@@ -58,6 +60,8 @@ driven_task under fit show session opening now running place script before seat 
   under_way = under session opening now running place script before seat acts r task tasks d.under_way m first runs;
   fits = fit session opening now running place script before seat acts r task tasks d.under_way d.fits m runs;
   shown = show session opening now running place script before seat acts r task tasks d.under_way d.fits d.shown m runs;
+  opened = d.opened;
+  logged = d.logged;
 }
 
 -- ---- an event
@@ -86,6 +90,8 @@ driven_event under fit show session opening now running place script before seat
   under_way = under session opening now running place script before seat acts r e told d.under_way m idle is meets;
   fits = fit session opening now running place script before seat acts r e told d.under_way d.fits m is meets;
   shown = show session opening now running place script before seat acts r e told d.under_way d.fits d.shown m is meets;
+  opened = d.opened;
+  logged = d.logged;
 }
 
 -- ---- a start
@@ -115,6 +121,8 @@ driven_start under fit show session opening now place script before seat r numbe
   under_way = under session opening now place script before seat r number told tx d.under_way m least idle found waits begins is;
   fits = fit session opening now None place script before seat r number told d.under_way d.fits m is;
   shown = show session opening now None place script before seat r number told d.under_way d.fits d.shown m;
+  opened = d.opened;
+  logged = d.logged;
 }
 
 -- ---- a turn
@@ -144,6 +152,8 @@ driven_turn under fit show session opening now t place script before seat r note
   under_way = under session opening now t place script before seat r notes tx d.under_way m idle found started is;
   fits = fit session opening now (Some t) place script before seat r t.number notes d.under_way d.fits m is;
   shown = show session opening now (Some t) place script before seat r t.number notes d.under_way d.fits d.shown m;
+  opened = d.opened;
+  logged = d.logged;
 }
 
 -- ---- a finish
@@ -179,15 +189,22 @@ FinishLaw = (session : ScriptSession) (opening : Items) (now : SessionNow) (t : 
     → before.client.tasks ≡ [] → tx_at before.client t.number ≡ Some tx → tx.started ≡ true
     → EndsTx script.blocks (without_tx before.client t.number) t.number outcome tx.kind acts seat.client
     → RunsOn ScriptReacts ScriptWrites (part_of (scope_of_body t.body) now.items) t.body t.turns changes kept false outcome
-    → is_in_doubt outcome ≡ false → IsSoundKept kept
+    → is_in_doubt outcome ≡ false → IsSoundKept kept → LeavesSound t.body outcome changes now.items
     → IsDriven session opening (with_finished (entry_ran t changes kept outcome) (with_seat place r seat now)) None
 
-pub driven_finish : UnderFinish → FitFinish → ShowFinish → FinishLaw
-driven_finish under fit show session opening now t place script before seat acts r told tx outcome kept changes d m idle found started ends ran sure sound = record {
-  under_way = under session opening now t place script before seat acts r told tx outcome kept changes d.under_way m idle found started ends ran sure;
-  fits = fit session opening now (Some t) place script before seat acts r t.number told tx outcome kept (entry_ran t changes kept outcome) d.under_way d.fits m found ends;
-  shown = show session opening now t place script before seat acts r told tx outcome kept changes d.under_way d.fits d.shown m found ends ran sound;
-}
+pub driven_finish : UnderFinish → FitFinish → ShowFinish → LogLaws → FinishLaw
+driven_finish under fit show logs session opening now t place script before seat acts r told tx outcome kept changes d m idle found started ends ran sure sound leaves =
+    let last : SessionNow = with_finished (entry_ran t changes kept outcome) (with_seat place r seat now) in
+    let under_way = under session opening now t place script before seat acts r told tx outcome kept changes d.under_way m idle found started ends ran sure in
+    let fits = fit session opening now (Some t) place script before seat acts r t.number told tx outcome kept (entry_ran t changes kept outcome) d.under_way d.fits m found ends in
+    let shown = show session opening now t place script before seat acts r told tx outcome kept changes d.under_way d.fits d.shown m found ends ran sound in
+    record {
+      under_way = under_way;
+      fits = fits;
+      shown = shown;
+      opened = d.opened;
+      logged = finish_logged logs opening now t outcome kept changes r.order d.logged ran leaves (logs.limits session opening last None under_way fits shown d.opened.within);
+    }
 
 -- ---- without starting
 abbrev UnderCancel : Type 0
@@ -225,9 +242,11 @@ CancelLaw = (session : ScriptSession) (opening : Items) (now : SessionNow) (plac
     → NeverStarts ScriptReacts ScriptWrites tx.body turns [] None false outcome
     → IsDriven session opening (with_finished (entry_dropped number tx.body turns outcome) (with_seat place r seat now)) None
 
-pub driven_cancel : UnderCancel → FitCancel → ShowCancel → CancelLaw
-driven_cancel under fit show session opening now place script before seat acts r told tx number turns outcome d m least idle found waits ends never = record {
+pub driven_cancel : UnderCancel → FitCancel → ShowCancel → LogLaws → CancelLaw
+driven_cancel under fit show logs session opening now place script before seat acts r told tx number turns outcome d m least idle found waits ends never = record {
   under_way = under session opening now place script before seat acts r told tx number turns outcome d.under_way m least idle found waits ends never;
   fits = fit session opening now None place script before seat acts r number told tx turns outcome (entry_dropped number tx.body turns outcome) d.under_way d.fits m found ends;
   shown = show session opening now None place script before seat acts r number told tx turns outcome d.under_way d.fits d.shown m found ends never;
+  opened = d.opened;
+  logged = cancel_logged logs opening now number tx.body turns outcome r.order d.logged never;
 }

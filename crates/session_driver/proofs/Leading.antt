@@ -6,7 +6,9 @@ use Rattle.std.proofs.Common.{◌≡◌, ◌≤◌, ℕ, Bool, true, false, ◌&
 use Rattle.idb_schema.specs.Schemas.{SchemaData}
 use Rattle.idb_calls.specs.Deltas.{DeltaTree}
 use Rattle.idb_calls.specs.declared.traces.Outcome.{Outcome}
+use Rattle.idb_desk.specs.declared.steps.DeskStep.{DeskStep}
 use Rattle.idb_desk.specs.declared.steps.DeskStep.TheVariants as step
+use Rattle.log_history.specs.Batching.{Commit}
 use Rattle.idb_desk.specs.Steps.{DeskRun, desk_run, IsDeskRun}
 use Rattle.item_changes.specs.Items.{Items}
 use Rattle.item_changes.specs.Effects.{applied_all}
@@ -23,19 +25,18 @@ use Rattle.client_machine.specs.ClientStates.{ClientTx, tx_at, without_tx, with_
 use Rattle.client_machine.specs.ClientSteps.{Meets, EndsTx, with_tasks}
 use Rattle.client_machine.specs.TaskRuns.{RunsNow}
 use Rattle.client_ties.specs.Unfinished.{least_of}
-use Rattle.legal_sessions.specs.SerialResults.{number_of_entry}
-use Rattle.legal_sessions.specs.Legal.{is_in_doubt, may_write, commits_of}
+use Rattle.legal_sessions.specs.Legal.{is_in_doubt, may_write, record_of_entry, records_logged, commits_at}
 use Rattle.session_states.specs.Sessions.{SeatNow, SessionNow, with_seat, with_finished}
 use Rattle.session_states.specs.Telling.{RunningTx}
 use Rattle.session_states.specs.Moves.{Moves, entry_ran, entry_dropped}
 use Rattle.task_statements.specs.Offices.{OfficeState}
 use Rattle.client_tasks.specs.Steps.{RunsTaskInto, TakesEventInto, StartsInto, TurnInto, FinishesInto, FinishesUnstartedInto, told_take}
 use Rattle.session_facts.specs.Showing.{IsSoundKept}
-use Rattle.session_driver.specs.declared.finished.Finished.{Finished}
-use Rattle.session_driver.specs.Scenes.{Scene, IsDriven, scene_of, seat_on, IsSceneAt, with_scene, LeadsTo, KeepsOn, commit_numbers, with_finish_of}
-use Rattle.session_driver.specs.Running.{begun_run, one_turn_more, left_items}
+use Rattle.session_driver.specs.Scenes.{DoneNow, Scene, IsDriven, scene_of, seat_on, IsSceneAt, with_scene, LeadsTo, KeepsOn, record_if, with_finish_of}
+use Rattle.session_driver.specs.Running.{begun_run, one_turn_more, left_items, LeavesSound}
 use Rattle.session_driver.specs.Measures.{tasks_left}
 use Rattle.session_driver.proofs.Laws.{TaskLaw, EventLaw, StartLaw, TurnLaw, FinishLaw, CancelLaw}
+use Rattle.session_driver.proofs.Logging.{never_commits, writes_none, keeps_none}
 use Rattle.session_driver.proofs.Lessening.{posted_left, ends_left, left_same, left_still, task_less, event_more, lt_le}
 use Rattle.session_driver.proofs.Places.{get_here, set_same, set_twice}
 
@@ -46,22 +47,24 @@ parts_of now = record { run = now.run; seats = now.seats; finish = now.finish; c
 pub leads_still : (s : Scene) (running : Option RunningTx) → LeadsTo running running s s
 leads_still s running = record {
   blocks = refl;
+  opening = refl;
   less = left_still s.office.client s.office.client s.notes s.notes refl refl;
-  leads = λ session opening now place at u.
+  leads = λ session now place at u.
       let seats : slice_set now.seats place (seat_on s) ≡ now.seats = set_same now.seats place (seat_on s) at.seat_at in
       let run = at.run in
       let finish = at.finish in
       let commits = at.commits in
       let items = at.items in
       let same : parts_of now ≡ with_scene place s now = cc in
-      subst (λ (n : SessionNow). IsDriven session opening n running) same u;
+      subst (λ (n : SessionNow). IsDriven session s.done.opening n running) same u;
 }
 
 pub leads_again : (running between next : Option RunningTx) (s mid last : Scene) → LeadsTo running between s mid → LeadsTo between next mid last → LeadsTo running next s last
 leads_again running between next s mid last a b = record {
   blocks = b.blocks ∙ a.blocks;
+  opening = b.opening ∙ a.opening;
   less = over b.less a.less;
-  leads = λ session opening now place at u.
+  leads = λ session now place at u.
       let mid_at : IsSceneAt session (with_scene place mid now) place mid = record {
         script = at.script;
         script_at = at.script_at;
@@ -74,8 +77,8 @@ leads_again running between next s mid last a b = record {
       } in
       let seats : slice_set (slice_set now.seats place (seat_on mid)) place (seat_on last) ≡ slice_set now.seats place (seat_on last) = set_twice now.seats place (seat_on mid) (seat_on last) in
       let same : with_scene place last (with_scene place mid now) ≡ with_scene place last now = cc in
-      subst (λ (n : SessionNow). IsDriven session opening n next) same
-      (b.leads session opening (with_scene place mid now) place mid_at (a.leads session opening now place at u));
+      subst (λ (n : SessionNow). IsDriven session last.done.opening n next) same
+      (b.leads session (with_scene place mid now) place mid_at (a.leads session now place at u));
 }
   where
     over : {m n o : ℕ} → m ≤ n → n ≤ o → m ≤ o
@@ -85,7 +88,7 @@ leads_again running between next s mid last a b = record {
 abbrev seat_in : OfficeState → List Note → SeatNow
 seat_in office notes = record { client = office.client; notes = notes }
 
-moves_at : (session : ScriptSession) (now : SessionNow) (place : ℕ) (old new : OfficeState) (before after : List Note) (acts : List Act) (done : Finished) (items : Items) (at : IsSceneAt session now place (scene_of old before done items))
+moves_at : (session : ScriptSession) (now : SessionNow) (place : ℕ) (old new : OfficeState) (before after : List Note) (acts : List Act) (done : DoneNow) (items : Items) (at : IsSceneAt session now place (scene_of old before done items))
     → MadeAtOnce old.client.number old.run acts new.run → IsDeskRun new.run → after ≡ before ++ notes_of_acts acts
     → Moves session now place at.script (seat_in old before) acts new.run (seat_in new after)
 moves_at session now place old new before after acts done items at made run lines = record {
@@ -97,7 +100,7 @@ moves_at session now place old new before after acts done items at made run line
 }
 
 -- nothing else of the session changed
-left_so : (session : ScriptSession) (opening : Items) (now : SessionNow) (next : Option RunningTx) (place : ℕ) (new : OfficeState) (after : List Note) (done : Finished) (items : Items)
+left_so : (session : ScriptSession) (opening : Items) (now : SessionNow) (next : Option RunningTx) (place : ℕ) (new : OfficeState) (after : List Note) (done : DoneNow) (items : Items)
     → now.finish ≡ done.finish → now.commits ≡ done.commits → now.items ≡ items
     → IsDriven session opening (with_seat place new.run (seat_in new after) now) next → IsDriven session opening (with_scene place (scene_of new after done items) now) next
 left_so session opening now next place new after done items finish commits same_items u =
@@ -108,10 +111,11 @@ pub task_keeps : TaskLaw → (old new : OfficeState) (before after : List Note) 
 task_keeps law old new before after t run = record {
   goes = λ running done items. record {
     blocks = t.follows.blocks;
+    opening = refl;
     less = lt_le (task_less old new before after t);
-    leads = λ session opening now place at u.
-        left_so session opening now running place new after done items at.finish at.commits at.items
-        (law session opening now running place at.script (seat_in old before) (seat_in new after) t.acts new.run t.task t.tasks u
+    leads = λ session now place at u.
+        left_so session done.opening now running place new after done items at.finish at.commits at.items
+        (law session done.opening now running place at.script (seat_in old before) (seat_in new after) t.acts new.run t.task t.tasks u
         (moves_at session now place old new before after t.acts done items at t.follows.made run t.follows.lines) t.first
         (subst (λ (bs : List Named). RunsNow bs (with_tasks old.client t.tasks) t.task.env (Some t.task.block) t.acts new.client) at.blocks t.runs));
   };
@@ -123,10 +127,11 @@ event_keeps law old new before after t run =
     record {
       goes = λ running done items. record {
         blocks = t.follows.blocks;
+        opening = refl;
         less = event_more old new before after t;
-        leads = λ session opening now place at u.
-            left_so session opening now running place new after done items at.finish at.commits at.items
-            (law session opening now running place at.script (seat_in old before) (seat_in new after) t.acts new.run t.event (told_take old) u
+        leads = λ session now place at u.
+            left_so session done.opening now running place new after done items at.finish at.commits at.items
+            (law session done.opening now running place at.script (seat_in old before) (seat_in new after) t.acts new.run t.event (told_take old) u
             (moves_at session now place old new before after acts done items at t.follows.made run t.follows.lines) t.idle t.told
             (subst (λ (bs : List Named). Meets bs (told_take old) old.client t.event t.acts new.client) at.blocks t.meets));
       };
@@ -140,7 +145,7 @@ no_more (x ∷ xs) = ap (λ ys. x ∷ ys) (no_more xs)
 least_there : (r q : DeskRun) (number : ℕ) → r ≡ q → least_of (desk_run q) ≡ Some number → least_of (desk_run r) ≡ Some number
 least_there r q number same least = ap (λ (x : DeskRun). least_of (desk_run x)) same ∙ least
 
-pub start_leads : StartLaw → (number : ℕ) (old new : OfficeState) (notes : List Note) (body : TxBody Script) (done : Finished) (items : Items)
+pub start_leads : StartLaw → (number : ℕ) (old new : OfficeState) (notes : List Note) (body : TxBody Script) (done : DoneNow) (items : Items)
     → StartsInto number old body new → IsDeskRun new.run → least_of (desk_run old.run) ≡ Some number
     → LeadsTo None (Some (begun_run number body)) (scene_of old notes done items) (scene_of new notes done items)
 start_leads law number old new notes body done items t run least =
@@ -148,83 +153,74 @@ start_leads law number old new notes body done items t run least =
     let acts : List Act = Makes (step.Starts old.client.number number) told ∷ [] in
     record {
       blocks = t.follows.blocks;
+      opening = refl;
       less = left_same old.client new.client notes notes [] (ap tasks_left t.client) (no_more notes);
-      leads = λ session opening now place at u.
-          left_so session opening now (Some (begun_run number body)) place new notes done items at.finish at.commits at.items
-          (subst (λ (b : TxBody Script). IsDriven session opening (with_seat place new.run (seat_in new notes) now) (Some (begun_run number b))) (sym t.given)
-          (law session opening now place at.script (seat_in old notes) (seat_in new notes) new.run number told t.tx u
+      leads = λ session now place at u.
+          left_so session done.opening now (Some (begun_run number body)) place new notes done items at.finish at.commits at.items
+          (subst (λ (b : TxBody Script). IsDriven session done.opening (with_seat place new.run (seat_in new notes) now) (Some (begun_run number b))) (sym t.given)
+          (law session done.opening now place at.script (seat_in old notes) (seat_in new notes) new.run number told t.tx u
           (moves_at session now place old new notes notes acts done items at t.follows.made run (no_more notes)) (least_there now.run old.run number at.run least) t.idle t.found t.waits t.begins t.client));
     }
 
-pub turn_leads : TurnLaw → (t : RunningTx) (old new : OfficeState) (before lines : List Note) (done : Finished) (items : Items)
+pub turn_leads : TurnLaw → (t : RunningTx) (old new : OfficeState) (before lines : List Note) (done : DoneNow) (items : Items)
     → TurnInto t.number old lines new → IsDeskRun new.run
     → LeadsTo (Some t) (Some (one_turn_more t lines)) (scene_of old before done items) (scene_of new (before ++ lines) done items)
 turn_leads law t old new before lines done items h run =
     let acts : List Act = TakesTurn t.number lines ∷ [] in
     record {
       blocks = h.follows.blocks;
+      opening = refl;
       less = left_same old.client new.client before (before ++ lines) lines (ap tasks_left h.client ∙ posted_left lines old.client) refl;
-      leads = λ session opening now place at u.
-          left_so session opening now (Some (one_turn_more t lines)) place new (before ++ lines) done items at.finish at.commits at.items
-          (law session opening now t place at.script (seat_in old before) (seat_in new (before ++ lines)) new.run lines h.tx u
+      leads = λ session now place at u.
+          left_so session done.opening now (Some (one_turn_more t lines)) place new (before ++ lines) done items at.finish at.commits at.items
+          (law session done.opening now t place at.script (seat_in old before) (seat_in new (before ++ lines)) new.run lines h.tx u
           (moves_at session now place old new before (before ++ lines) acts done items at h.follows.made run (ap (λ ls. before ++ ls) (no_more lines))) h.idle h.found h.runs h.client);
     }
 
 -- ---- it finishes
-commits_so : (b : Bool) (commits : List ℕ) (e : FinishEntry Script Note) → commits ++ map number_of_entry (if b then e ∷ [] else []) ≡ commit_numbers commits e.number b
-commits_so true commits e = refl
-commits_so false commits e = sym (no_more commits)
+commits_so : (b : Bool) (order : List DeskStep) (commits : List Commit) (e : FinishEntry Script Note) → commits ++ commits_at order (map record_of_entry (if b then e ∷ [] else [])) ≡ commits ++ commits_at order (record_if b e.number e.changes)
+commits_so true order commits e = refl
+commits_so false order commits e = refl
 
-finished_so : (session : ScriptSession) (opening : Items) (now : SessionNow) (place : ℕ) (new : OfficeState) (after : List Note) (done : Finished) (items : Items) (e : FinishEntry Script Note) (left : Items) (b : Bool)
+finished_so : (session : ScriptSession) (opening : Items) (now : SessionNow) (place : ℕ) (new : OfficeState) (after : List Note) (done : DoneNow) (items : Items) (e : FinishEntry Script Note) (left : Items) (b : Bool)
     → now.finish ≡ done.finish → now.commits ≡ done.commits → (did_commit e.outcome && may_write e.body) ≡ b → applied_all now.items (changes_kept e) ≡ left
     → IsDriven session opening (with_finished e (with_seat place new.run (seat_in new after) now)) None
-    → IsDriven session opening (with_scene place (scene_of new after (with_finish_of done e.number b) left) now) None
+    → IsDriven session opening (with_scene place (scene_of new after (with_finish_of done new.run e.number b e.changes) left) now) None
 finished_so session opening now place new after done items e left b finish commits writes same_items u =
     let finish_is : now.finish ++ e.number ∷ [] ≡ done.finish ++ e.number ∷ [] = ap (λ ns. ns ++ e.number ∷ []) finish in
-    let commits_is : now.commits ++ map number_of_entry (commits_of (e ∷ [])) ≡ commit_numbers done.commits e.number b =
-    commits_so (did_commit e.outcome && may_write e.body) now.commits e ∙ ap (commit_numbers now.commits e.number) writes ∙ ap (λ ns. commit_numbers ns e.number b) commits in
-    let same : with_finished e (with_seat place new.run (seat_in new after) now) ≡ with_scene place (scene_of new after (with_finish_of done e.number b) left) now = cc in
+    let commits_is : now.commits ++ commits_at new.run.order (records_logged (e ∷ [])) ≡ done.commits ++ commits_at new.run.order (record_if b e.number e.changes) =
+    commits_so (did_commit e.outcome && may_write e.body) new.run.order now.commits e ∙ ap (λ w. now.commits ++ commits_at new.run.order (record_if w e.number e.changes)) writes ∙ ap (λ cs. cs ++ commits_at new.run.order (record_if b e.number e.changes)) commits in
+    let same : with_finished e (with_seat place new.run (seat_in new after) now) ≡ with_scene place (scene_of new after (with_finish_of done new.run e.number b e.changes) left) now = cc in
     subst (λ (n : SessionNow). IsDriven session opening n None) same u
 
-pub finish_leads : FinishLaw → (t : RunningTx) (outcome : Outcome) (kept : Option SchemaData) (changes : List DeltaTree) (old new : OfficeState) (before after : List Note) (done : Finished) (items : Items)
+pub finish_leads : FinishLaw → (t : RunningTx) (outcome : Outcome) (kept : Option SchemaData) (changes : List DeltaTree) (old new : OfficeState) (before after : List Note) (done : DoneNow) (items : Items)
     → FinishesInto t.number outcome kept old before new after → IsDeskRun new.run
-    → RunsOn ScriptReacts ScriptWrites (part_of (scope_of_body t.body) items) t.body t.turns changes kept false outcome → is_in_doubt outcome ≡ false → IsSoundKept kept
-    → LeadsTo (Some t) None (scene_of old before done items) (scene_of new after (with_finish_of done t.number (did_commit outcome && may_write t.body)) (left_items items outcome changes))
-finish_leads law t outcome kept changes old new before after done items f run ran sure sound =
+    → RunsOn ScriptReacts ScriptWrites (part_of (scope_of_body t.body) items) t.body t.turns changes kept false outcome → is_in_doubt outcome ≡ false → IsSoundKept kept → LeavesSound t.body outcome changes items
+    → LeadsTo (Some t) None (scene_of old before done items) (scene_of new after (with_finish_of done new.run t.number (did_commit outcome && may_write t.body) changes) (left_items items outcome changes))
+finish_leads law t outcome kept changes old new before after done items f run ran sure sound leaves =
     let told : Told = told_by (desk_run old.run) (step.Leaves old.client.number t.number outcome kept) in
     let acts : List Act = Makes (step.Leaves old.client.number t.number outcome kept) told ∷ f.acts in
     record {
       blocks = f.follows.blocks;
+      opening = refl;
       less = left_same old.client new.client before after (notes_of_acts acts) (ends_left old.blocks (without_tx old.client t.number) t.number outcome f.tx.kind f.acts new.client f.ends) f.follows.lines;
-      leads = λ session opening now place at u.
-          finished_so session opening now place new after done items (entry_ran t changes kept outcome) (left_items items outcome changes) (did_commit outcome && may_write t.body) at.finish at.commits refl
+      leads = λ session now place at u.
+          finished_so session done.opening now place new after done items (entry_ran t changes kept outcome) (left_items items outcome changes) (did_commit outcome && may_write t.body) at.finish at.commits refl
           (ap (λ (is : Items). applied_all is (if did_commit outcome then changes else [])) at.items)
-          (law session opening now t place at.script (seat_in old before) (seat_in new after) f.acts new.run told f.tx outcome kept changes u
+          (law session done.opening now t place at.script (seat_in old before) (seat_in new after) f.acts new.run told f.tx outcome kept changes u
           (moves_at session now place old new before after acts done items at f.follows.made run f.follows.lines) f.idle f.found f.ran
           (subst (λ (bs : List Named). EndsTx bs (without_tx old.client t.number) t.number outcome f.tx.kind f.acts new.client) at.blocks f.ends)
-          (subst (λ (is : Items). RunsOn ScriptReacts ScriptWrites (part_of (scope_of_body t.body) is) t.body t.turns changes kept false outcome) (sym at.items) ran) sure sound);
+          (subst (λ (is : Items). RunsOn ScriptReacts ScriptWrites (part_of (scope_of_body t.body) is) t.body t.turns changes kept false outcome) (sym at.items) ran) sure sound (subst (λ (is : Items). LeavesSound t.body outcome changes is) (sym at.items) leaves));
     }
 
 -- ---- without starting
-never_commits : (body : TxBody Script) (turns : List (List Note)) (outcome : Outcome) → NeverStarts ScriptReacts ScriptWrites body turns [] None false outcome → did_commit outcome ≡ false
-never_commits (Scripted body) turns outcome h = ap did_commit h.cancelled.ended
-never_commits (Deletion name) turns outcome h = ap did_commit h.cancelled.2
-
-writes_none : (committed writes : Bool) → committed ≡ false → (committed && writes) ≡ false
-writes_none true writes e = cc
-writes_none false writes e = refl
-
-keeps_none : (committed : Bool) (items : Items) → applied_all items (if committed then [] else []) ≡ items
-keeps_none true items = refl
-keeps_none false items = refl
-
 some_tx : (a b : ClientTx) → Some a ≡ Some b → a ≡ b
 some_tx a b e = cc
 
-pub cancel_leads : CancelLaw → (number : ℕ) (turns : List (List Note)) (outcome : Outcome) (tx : ClientTx) (old new : OfficeState) (before after : List Note) (done : Finished) (items : Items)
+pub cancel_leads : CancelLaw → (number : ℕ) (turns : List (List Note)) (outcome : Outcome) (tx : ClientTx) (old new : OfficeState) (before after : List Note) (done : DoneNow) (items : Items)
     → FinishesUnstartedInto number turns outcome old before new after → IsDeskRun new.run → least_of (desk_run old.run) ≡ Some number → tx_at old.client number ≡ Some tx
     → NeverStarts ScriptReacts ScriptWrites tx.body turns [] None false outcome
-    → LeadsTo None None (scene_of old before done items) (scene_of new after (with_finish_of done number false) items)
+    → LeadsTo None None (scene_of old before done items) (scene_of new after (with_finish_of done new.run number false []) items)
 cancel_leads law number turns outcome tx old new before after done items f run least found never =
     let told : Told = told_by (desk_run old.run) (step.Leaves old.client.number number outcome None) in
     let acts : List Act = map (TakesTurn number) turns ++ Makes (step.Leaves old.client.number number outcome None) told ∷ f.acts in
@@ -232,12 +228,13 @@ cancel_leads law number turns outcome tx old new before after done items f run l
     let never_so : NeverStarts ScriptReacts ScriptWrites f.tx.body turns [] None false outcome = subst (λ (x : ClientTx). NeverStarts ScriptReacts ScriptWrites x.body turns [] None false outcome) same never in
     record {
       blocks = f.follows.blocks;
+      opening = refl;
       less = left_same old.client new.client before after (notes_of_acts acts) (ends_left old.blocks (with_notes (without_tx old.client number) (joined_lines turns)) number outcome f.tx.kind f.acts new.client f.ends ∙ posted_left (joined_lines turns) (without_tx old.client number)) f.follows.lines;
-      leads = λ session opening now place at u.
-          finished_so session opening now place new after done items (entry_dropped number f.tx.body turns outcome) items false at.finish at.commits
+      leads = λ session now place at u.
+          finished_so session done.opening now place new after done items (entry_dropped number f.tx.body turns outcome) items false at.finish at.commits
           (writes_none (did_commit outcome) (may_write f.tx.body) (never_commits f.tx.body turns outcome never_so))
           (keeps_none (did_commit outcome) now.items ∙ at.items)
-          (law session opening now place at.script (seat_in old before) (seat_in new after) f.acts new.run told f.tx number turns outcome u
+          (law session done.opening now place at.script (seat_in old before) (seat_in new after) f.acts new.run told f.tx number turns outcome u
           (moves_at session now place old new before after acts done items at f.follows.made run f.follows.lines) (least_there now.run old.run number at.run least) f.idle f.found f.waits
           (subst (λ (bs : List Named). EndsTx bs (with_notes (without_tx old.client number) (joined_lines turns)) number outcome f.tx.kind f.acts new.client) at.blocks f.ends)
           never_so);

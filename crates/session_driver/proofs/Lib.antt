@@ -1,5 +1,6 @@
 pub mod Places
 pub mod Listing
+pub mod Logging
 pub mod Laws
 pub mod Lessening
 pub mod Leading

@@ -4,10 +4,10 @@
 --     not_begun             what is due and can't start may not begin
 --     turn_can, finish_can, drop_can        what the client's office allows then
 --     allowed_finish, allowed_aborted       what the desk allows then
---     whole_at              a transaction fits its part of the databases
+--     whole_at, loggable_at, there_at       a transaction fits its part of the databases;  what it changes can be logged;  what one deletes exists
 --     holds_started, holds_kept             what the client holds
 --     HeldTaskLaw, HeldPostLaw      by the laws of what is held
-use Rattle.std.proofs.Common.{◌≡◌, ℕ, Bool, true, false, not, ◌&&◌, ◌||◌, List, [], slice_get, Option, Some, None, is_none, refl, sym, ◌∙◌, ap, subst}
+use Rattle.std.proofs.Common.{◌≡◌, ◌≤◌, ℕ, length, Bool, true, false, not, ◌&&◌, ◌||◌, List, [], slice_get, Option, Some, None, is_some, is_none, refl, sym, ◌∙◌, ap, subst}
 use Rattle.idb_schema.specs.Schemas.{SchemaData}
 use Rattle.idb_calls.specs.Deltas.{DeltaTree}
 use Rattle.idb_calls.specs.declared.traces.Outcome.{Outcome}
@@ -16,13 +16,19 @@ use Rattle.name_queues.specs.declared.events.ClientEvent.{ClientEvent}
 use Rattle.name_queues.specs.declared.events.ClientEvent.TheVariants as event
 use Rattle.name_queues.specs.declared.ids.ConnId.{ConnId}
 use Rattle.idb_desk.specs.declared.steps.DeskStep.TheVariants as step
-use Rattle.idb_desk.specs.Refusals.{has_some, is_allowed, is_committed}
+use Rattle.idb_desk.specs.Refusals.{has_some, is_allowed, is_committed, is_version}
 use Rattle.idb_desk.specs.Steps.{DeskRun, desk_run, event_for}
-use Rattle.item_changes.specs.Items.{Database, Items}
+use Rattle.std.specs.FinMap as finite
+use Rattle.item_changes.specs.Items.{Name, Database, Items}
 use Rattle.item_changes.specs.Scopes.{part_of}
-use Rattle.serial_order.specs.FinishEntries.{ScriptedBody, TxBody, Scripted, scope_of_body}
+use Rattle.serial_order.specs.FinishEntries.{ScriptedBody, TxBody, Scripted, Deletion, scope_of_body}
 use Rattle.serial_order.specs.SerialRuns.{RunsOn}
 use Rattle.serial_order.specs.NumberOrder.{FitsWhole}
+use Rattle.idb_databases.specs.Items.{AreItems}
+use Rattle.record_bytes.specs.Loggable.{is_logged_version}
+use Rattle.request_lists.specs.Fronts.{is_upgrade_mode}
+use Rattle.list_machine.specs.declared.limits.TheConstants.{GREATEST_STORE_COUNT}
+use Rattle.session_txs.specs.Running.{IsLoggableBody}
 use Rattle.script_statements.specs.declared.script.Block.{Block as Named}
 use Rattle.script_statements.specs.declared.script.ScriptSession.{ScriptSession}
 use Rattle.script_runs.specs.declared.environments.Env.{Env}
@@ -41,9 +47,8 @@ use Rattle.session_states.specs.UnderWay.{IsUnderWay}
 use Rattle.session_facts.specs.Fitting.{IsFitting}
 use Rattle.session_facts.specs.Showing.{IsShown}
 use Rattle.task_statements.specs.Offices.{OfficeState}
-use Rattle.session_driver.specs.declared.finished.Finished.{Finished}
 use Rattle.session_driver.specs.Choosing.{IsDue}
-use Rattle.session_driver.specs.Scenes.{Scene, scene_of, seat_on, with_scene, LeadsTo, KeepsOn, StandsOn, IsAtWork}
+use Rattle.session_driver.specs.Scenes.{DoneNow, Scene, scene_of, seat_on, with_scene, LeadsTo, KeepsOn, StandsOn, IsAtWork}
 use Rattle.session_driver.specs.Running.{HoldsTx, HoldsBegun}
 use Rattle.session_driver.proofs.Places.{get_here}
 
@@ -51,7 +56,6 @@ use Rattle.session_driver.proofs.Places.{get_here}
 pub stands_behind : (running next : Option RunningTx) (s last : Scene) → StandsOn running s → LeadsTo running next s last → StandsOn next last
 stands_behind running next s last on l = record {
   session = on.session;
-  opening = on.opening;
   now = with_scene on.place last on.now;
   place = on.place;
   at = record {
@@ -64,10 +68,10 @@ stands_behind running next s last on l = record {
     commits = refl;
     items = refl;
   };
-  driven = l.leads on.session on.opening on.now on.place on.at on.driven;
+  driven = l.leads on.session on.now on.place on.at on.driven;
 }
 
-pub works_on : (running : Option RunningTx) (office : OfficeState) (notes : List Note) (done : Finished) (items : Items) → StandsOn running (scene_of office notes done items) → IsAtWork running office notes
+pub works_on : (running : Option RunningTx) (office : OfficeState) (notes : List Note) (done : DoneNow) (items : Items) → StandsOn running (scene_of office notes done items) → IsAtWork running office notes
 works_on running office notes done items on = record { done = done; items = items; on = on }
 
 pub works_behind : (running : Option RunningTx) (old new : OfficeState) (before after : List Note) → IsAtWork running old before → KeepsOn old before new after → IsAtWork running new after
@@ -108,7 +112,7 @@ module _ (opens : OpensLaw) (upgrades : UpgradesLaw) (deletions : DeletionsLaw) 
   told_here e told = ap (λ (r : DeskRun). event_for (desk_run r) o.client.number) w.on.at.run ∙ told
 
   open_here : (e : ClientEvent) → event_for (desk_run o.run) o.client.number ≡ Some e → (a : OpenAsked) × (open_at o.client (conn_of e).request ≡ Some a)
-  open_here e told = opens w.on.session w.on.opening now running w.on.place (seat_on (scene_of o notes w.done w.items)) e w.on.driven.under_way w.on.driven.fits w.on.at.seat_at (told_here e told)
+  open_here e told = opens w.on.session w.done.opening now running w.on.place (seat_on (scene_of o notes w.done w.items)) e w.on.driven.under_way w.on.driven.fits w.on.at.seat_at (told_here e told)
 
   plain_own : (e : ClientEvent) → event_for (desk_run o.run) o.client.number ≡ Some e → (is_none (open_at o.client (conn_of e).request) || false) ≡ true → ⊥
   plain_own e told stray =
@@ -118,7 +122,7 @@ module _ (opens : OpensLaw) (upgrades : UpgradesLaw) (deletions : DeletionsLaw) 
   by_event : (e : ClientEvent) → event_for (desk_run o.run) o.client.number ≡ Some e → is_stray o e ≡ true → ⊥
   by_event (event.Upgrade who old new) told stray =
       let a = open_here (event.Upgrade who old new) told in
-      let u = upgrades w.on.session w.on.opening now running w.on.place (seat_on (scene_of o notes w.done w.items)) who old new w.on.driven.under_way w.on.driven.fits w.on.at.seat_at (told_here (event.Upgrade who old new) told) in
+      let u = upgrades w.on.session w.done.opening now running w.on.place (seat_on (scene_of o notes w.done w.items)) who old new w.on.driven.under_way w.on.driven.fits w.on.at.seat_at (told_here (event.Upgrade who old new) told) in
       let number : (told_take o).number ≡ Some u.0 = ap (λ (r : DeskRun). (told_by (desk_run r) (step.Takes o.client.number)).number) (sym w.on.at.run) ∙ u.1.1.0 in
       let schema : (told_take o).schema ≡ Some u.1.0 = ap (λ (r : DeskRun). (told_by (desk_run r) (step.Takes o.client.number)).schema) (sym w.on.at.run) ∙ u.1.1.1 in
       lacks_none (open_at o.client who.request) (told_take o).number (told_take o).schema a.0 u.0 u.1.0 a.1 number schema stray
@@ -129,7 +133,7 @@ module _ (opens : OpensLaw) (upgrades : UpgradesLaw) (deletions : DeletionsLaw) 
   by_event (event.Closed who) told stray = plain_own (event.Closed who) told stray
   by_event (event.DeleteReady who old) told stray =
       let a = open_here (event.DeleteReady who old) told in
-      let d = deletions w.on.session w.on.opening now running w.on.place (seat_on (scene_of o notes w.done w.items)) who old w.on.driven.under_way w.on.driven.fits w.on.at.seat_at (told_here (event.DeleteReady who old) told) in
+      let d = deletions w.on.session w.done.opening now running w.on.place (seat_on (scene_of o notes w.done w.items)) who old w.on.driven.under_way w.on.driven.fits w.on.at.seat_at (told_here (event.DeleteReady who old) told) in
       let number : (told_take o).number ≡ Some d.0 = ap (λ (r : DeskRun). (told_by (desk_run r) (step.Takes o.client.number)).number) (sym w.on.at.run) ∙ d.1 in
       lacks_none {Z = ℕ} (open_at o.client who.request) (told_take o).number (Some 0) a.0 d.0 0 a.1 number refl stray
 
@@ -173,7 +177,7 @@ pub allowed_finish : FinishesLaw → (t : RunningTx) (o : OfficeState) (notes : 
     → IsAtWork (Some t) o notes → HoldsTx o t.number → RunsOn ScriptReacts ScriptWrites part t.body turns changes kept false outcome → is_allowed (desk_run o.run) (step.Leaves o.client.number t.number outcome kept) ≡ true
 allowed_finish law t o notes part turns changes kept outcome w h runs =
     ap (λ (r : DeskRun). is_allowed (desk_run r) (step.Leaves o.client.number t.number outcome kept)) (sym w.on.at.run)
-    ∙ law w.on.session w.on.opening w.on.now t w.on.place (seat_on (scene_of o notes w.done w.items)) h.tx part turns changes kept outcome w.on.driven.under_way w.on.driven.fits w.on.at.seat_at h.found runs
+    ∙ law w.on.session w.done.opening w.on.now t w.on.place (seat_on (scene_of o notes w.done w.items)) h.tx part turns changes kept outcome w.on.driven.under_way w.on.driven.fits w.on.at.seat_at h.found runs
 
 abbrev pub AbortedLaw : Type 0
 AbortedLaw = (session : ScriptSession) (opening : Items) (now : SessionNow) (running : Option RunningTx) (place : ℕ) (seat : SeatNow) (number : ℕ) (tx : ClientTx) (ended : Outcome)
@@ -184,7 +188,7 @@ pub allowed_aborted : AbortedLaw → (running : Option RunningTx) (o : OfficeSta
     → IsAtWork running o notes → tx_at o.client number ≡ Some tx → is_committed ended ≡ false → is_allowed (desk_run o.run) (step.Leaves o.client.number number ended None) ≡ true
 allowed_aborted law running o notes number tx ended w found out =
     ap (λ (r : DeskRun). is_allowed (desk_run r) (step.Leaves o.client.number number ended None)) (sym w.on.at.run)
-    ∙ law w.on.session w.on.opening w.on.now running w.on.place (seat_on (scene_of o notes w.done w.items)) number tx ended w.on.driven.under_way w.on.driven.fits w.on.at.seat_at found out
+    ∙ law w.on.session w.done.opening w.on.now running w.on.place (seat_on (scene_of o notes w.done w.items)) number tx ended w.on.driven.under_way w.on.driven.fits w.on.at.seat_at found out
 
 -- ---- its part
 abbrev pub WholeLaw : Type 0
@@ -192,11 +196,42 @@ WholeLaw = (session : ScriptSession) (opening : Items) (now : SessionNow) (runni
     → IsUnderWay session opening now running → IsFitting now → IsShown now → slice_get now.seats place ≡ Some seat → tx_at seat.client number ≡ Some tx → tx.body ≡ Scripted body
     → FitsWhole (part_of (scope_of_body (Scripted body)) now.items) body
 
-pub whole_at : WholeLaw → (running : Option RunningTx) (o : OfficeState) (notes : List Note) (done : Finished) (items : Items) (number : ℕ) (body : ScriptedBody Script)
+pub whole_at : WholeLaw → (running : Option RunningTx) (o : OfficeState) (notes : List Note) (done : DoneNow) (items : Items) (number : ℕ) (body : ScriptedBody Script)
     → StandsOn running (scene_of o notes done items) → HoldsBegun o number (Scripted body) → FitsWhole (part_of (scope_of_body (Scripted body)) items) body
 whole_at law running o notes done items number body on h =
     subst (λ (is : Items). FitsWhole (part_of (scope_of_body (Scripted body)) is) body) on.at.items
-    (law on.session on.opening on.now running on.place (seat_on (scene_of o notes done items)) number h.held.tx body on.driven.under_way on.driven.fits on.driven.shown on.at.seat_at h.held.found h.body_is)
+    (law on.session done.opening on.now running on.place (seat_on (scene_of o notes done items)) number h.held.tx body on.driven.under_way on.driven.fits on.driven.shown on.at.seat_at h.held.found h.body_is)
+
+abbrev pub VersionsLaw : Type 0
+VersionsLaw = (session : ScriptSession) (opening : Items) (now : SessionNow) (running : Option RunningTx) (place : ℕ) (seat : SeatNow) (number : ℕ) (tx : ClientTx) (body : ScriptedBody Script)
+    → IsUnderWay session opening now running → IsFitting now → AreItems opening → slice_get now.seats place ≡ Some seat → tx_at seat.client number ≡ Some tx → tx.body ≡ Scripted body
+    → is_upgrade_mode body.mode ≡ true → is_version body.schema.version ≡ true
+
+abbrev pub FewLaw : Type 0
+FewLaw = (session : ScriptSession) (opening : Items) (now : SessionNow) (running : Option RunningTx) (place : ℕ) (seat : SeatNow) (number : ℕ) (tx : ClientTx) (body : ScriptedBody Script)
+    → IsUnderWay session opening now running → IsFitting now → slice_get now.seats place ≡ Some seat → tx_at seat.client number ≡ Some tx → tx.body ≡ Scripted body
+    → length body.schema.entries ≤ GREATEST_STORE_COUNT
+
+-- what it changes can be logged
+pub loggable_at : VersionsLaw → FewLaw → ((version : ℕ) → is_logged_version version ≡ is_version version) → (running : Option RunningTx) (o : OfficeState) (notes : List Note) (done : DoneNow) (items : Items) (number : ℕ) (body : ScriptedBody Script)
+    → StandsOn running (scene_of o notes done items) → HoldsBegun o number (Scripted body) → IsLoggableBody body
+loggable_at versions few logged running o notes done items number body on h = record {
+  version = λ up. logged body.schema.version
+      ∙ versions on.session done.opening on.now running on.place (seat_on (scene_of o notes done items)) number h.held.tx body on.driven.under_way on.driven.fits on.driven.opened.items on.at.seat_at h.held.found h.body_is up;
+  few = few on.session done.opening on.now running on.place (seat_on (scene_of o notes done items)) number h.held.tx body on.driven.under_way on.driven.fits on.at.seat_at h.held.found h.body_is;
+}
+
+abbrev pub ThereLaw : Type 0
+ThereLaw = (session : ScriptSession) (opening : Items) (now : SessionNow) (running : Option RunningTx) (place : ℕ) (seat : SeatNow) (number : ℕ) (tx : ClientTx) (name : Name)
+    → IsUnderWay session opening now running → IsFitting now → IsShown now → slice_get now.seats place ≡ Some seat → tx_at seat.client number ≡ Some tx → tx.body ≡ Deletion name
+    → is_some (finite.get now.items name) ≡ true
+
+-- what one deletes exists
+pub there_at : ThereLaw → (running : Option RunningTx) (o : OfficeState) (notes : List Note) (done : DoneNow) (items : Items) (number : ℕ) (name : Name)
+    → StandsOn running (scene_of o notes done items) → HoldsBegun o number (Deletion name) → is_some (finite.get items name) ≡ true
+there_at law running o notes done items number name on h =
+    ap (λ (is : Items). is_some (finite.get is name)) (sym on.at.items)
+    ∙ law on.session done.opening on.now running on.place (seat_on (scene_of o notes done items)) number h.held.tx name on.driven.under_way on.driven.fits on.driven.shown on.at.seat_at h.held.found h.body_is
 
 -- ---- what the client holds
 abbrev pub HeldStartedLaw : Type 0

@@ -5,24 +5,42 @@
 --     start_holds, start_aborted    what its client holds then, and where it didn't start
 --     scripted_allowed, deletion_allowed, is_finished       the desk lets it finish;  and its finish is noted
 --     scripted_leads, deletion_leads        it runs to its end
+--     finishes_so, deletion_so, starts_finish       as its trace tells it
+--     loggable_so           and can be logged
+--     commit_is, enters_so  whether it is a commit;  with it the commits apply
 --     dropped_leads         one that its body aborted
 --     tx_moved, served_moved        less is left to do
 --     aborted_scripted, dropped_body, never_committed, aborted_there, no_outcome    what is known of it
-use Rattle.std.proofs.Common.{◌≡◌, ◌<◌, ◌≤◌, ℕ, ◌+◌, ◌-◌, Bool, true, false, ◌&&◌, List, [], ◌∷◌, ◌++◌, drop, length, if◌then◌else◌, Option, Some, None, is_some, IfSome, IfNone, refl, sym, ◌∙◌, ap, subst, arith}
+use Rattle.std.proofs.Common.{◌≡◌, ◌<◌, ◌≤◌, ℕ, ◌+◌, ◌-◌, Bool, true, false, not, ◌&&◌, List, [], ◌∷◌, ◌++◌, drop, length, if◌then◌else◌, Option, Some, None, is_some, IfSome, IfNone, refl, sym, ◌∙◌, ap, subst, arith}
 use Rattle.idb_schema.specs.Schemas.{SchemaData}
-use Rattle.idb_calls.specs.Deltas.{DropDatabase}
+use Rattle.std.specs.FinMap as finite
+use Rattle.std.proofs.lemmas.List.{append-nil}
+use Rattle.idb_calls.specs.Deltas.{DeltaTree, DropDatabase}
 use Rattle.idb_calls.specs.declared.traces.Outcome.{Outcome}
-use Rattle.idb_calls.specs.declared.traces.Outcome.TheVariants.{Committed}
+use Rattle.idb_calls.specs.declared.traces.Outcome.TheVariants.{Committed, Aborted}
+use Rattle.idb_calls.specs.declared.traces.TxTrace.{TxTrace}
+use Rattle.idb_base.specs.Lists.{IsWithinLimit}
+use Rattle.idb_keys.specs.declared.names.Durability.{Durability}
+use Rattle.idb_desk.specs.Durabilities.{durability_drawn}
+use Rattle.loggable_changes.specs.Logging.{AreLoggable}
+use Rattle.idb_keys.specs.declared.names.Mode.{Mode}
+use Rattle.idb_keys.specs.declared.names.Mode.TheVariants as mode
 use Rattle.idb_desk.specs.declared.steps.DeskStep.TheVariants as step
 use Rattle.idb_desk.specs.Refusals.{is_allowed, is_committed}
-use Rattle.idb_desk.specs.Steps.{desk_run, IsDeskRun}
+use Rattle.idb_desk.specs.Steps.{DeskRun, desk_run, IsDeskRun}
 use Rattle.item_changes.specs.Items.{Name, Database, Items}
 use Rattle.item_changes.specs.Effects.{applied_all}
-use Rattle.item_changes.specs.Scopes.{part_of}
-use Rattle.request_lists.specs.Fronts.{new_front}
+use Rattle.item_changes.specs.Scopes.{Whole, seen_by, part_of}
+use Rattle.log_history.specs.Batching.{Commit, commit_of, records_of_commits}
+use Rattle.log_history.specs.Replayed.{are_unbroken, after_records}
+use Rattle.tx_book.specs.Entries.{has_committed, only_reads, CanBeLogged}
+use Rattle.session_books.specs.States.{commits_apply}
+use Rattle.session_books.specs.Entering.{is_commit, commits_with}
+use Rattle.request_lists.specs.Fronts.{new_front, is_read_only_mode}
 use Rattle.request_lists.specs.Placing.{Becomes}
 use Rattle.serial_order.specs.FinishEntries.{ScriptedBody, TxBody, Scripted, Deletion, did_commit, front_left}
 use Rattle.serial_order.specs.SerialRuns.{RunsOn, NeverStarts, joined_lines, is_aborted_phase}
+use Rattle.serial_order.specs.NumberOrder.{FitsWhole}
 use Rattle.script_runs.specs.declared.notes.Note.{Note}
 use Rattle.script_handlers.specs.Handling.{Script, ScriptReacts, ScriptWrites}
 use Rattle.client_machine.specs.ClientStates.{ClientTx, tx_at}
@@ -31,17 +49,16 @@ use Rattle.client_ties.specs.Unfinished.{least_of}
 use Rattle.client_parts.specs.declared.begun.BegunBody.{BegunBody}
 use Rattle.client_parts.specs.Holding.{body_seen}
 use Rattle.client_tasks.specs.Steps.{Whether, can_start, StartsInto, TurnInto, FinishesInto, FinishesUnstartedInto}
-use Rattle.legal_sessions.specs.Legal.{is_in_doubt, may_write}
+use Rattle.legal_sessions.specs.Legal.{is_in_doubt, may_write, commits_at}
 use Rattle.session_databases.specs.Parts.{without_part}
 use Rattle.session_states.specs.Telling.{RunningTx}
 use Rattle.session_facts.specs.Showing.{IsSoundKept}
 use Rattle.task_statements.specs.Offices.{OfficeState}
-use Rattle.session_txs.specs.Running.{SessionTxState, begun_tx, scope_of_scripted, with_one_turn, ended_tx, EndsUnstarted, RanAndLeft as TxFinishes}
-use Rattle.session_driver.specs.declared.finished.Finished.{Finished}
+use Rattle.session_txs.specs.Running.{SessionTxState, begun_tx, scope_of_scripted, with_one_turn, ended_tx, EndsUnstarted, IsDeletionTrace, RanAndLeft as TxFinishes}
 use Rattle.session_driver.specs.Measures.{beyond_memory}
-use Rattle.session_driver.specs.Scenes.{scene_of, LeadsTo, KeepsOn, StandsOn, with_finish_of}
+use Rattle.session_driver.specs.Scenes.{DoneNow, scene_of, LeadsTo, KeepsOn, StandsOn, record_if, with_finish_of, done_with}
 use Rattle.session_driver.specs.Choosing.{IsDue}
-use Rattle.session_driver.specs.Running.{begun_run, one_turn_more, run_seen, left_items, TurnLeads, EndLeads, RunsOnInto, HasSureEnd, FinishedWith, HoldsTx, HoldsBegun, WasAborted}
+use Rattle.session_driver.specs.Running.{begun_run, one_turn_more, run_seen, left_items, LeavesSound, TurnLeads, EndLeads, FinishLeads, RunsOnInto, HasSureEnd, FinishedWith, HoldsTx, HoldsBegun, WasAborted}
 use Rattle.session_driver.proofs.Laws.{StartLaw, TurnLaw, FinishLaw, CancelLaw}
 use Rattle.session_driver.proofs.Standing.{HeldStartedLaw, FinishesLaw, not_begun, holds_started, stands_behind, works_on, allowed_finish}
 use Rattle.session_driver.proofs.Leading.{leads_still, leads_again, start_leads, turn_leads, finish_leads, cancel_leads}
@@ -125,13 +142,13 @@ turn_goes law number old new lines h run = record {
 pub end_goes : FinishLaw → (number : ℕ) (outcome : Outcome) (kept : Option SchemaData) (old new : OfficeState) (before after : List Note) → FinishesInto number outcome kept old before new after → IsDeskRun new.run → IsSoundKept kept
     → EndLeads number outcome kept old before new after
 end_goes law number outcome kept old new before after f run sound = record {
-  goes = λ t changes done items is ran sure.
-      subst (λ n. LeadsTo (Some t) None (scene_of old before done items) (scene_of new after (with_finish_of done n (did_commit outcome && may_write t.body)) (left_items items outcome changes))) is
-      (finish_leads law t outcome kept changes old new before after done items (subst (λ n. FinishesInto n outcome kept old before new after) (sym is) f) run ran sure sound);
+  goes = λ t changes done items is ran sure leaves.
+      subst (λ n. LeadsTo (Some t) None (scene_of old before done items) (scene_of new after (with_finish_of done new.run n (did_commit outcome && may_write t.body) changes) (left_items items outcome changes))) is
+      (finish_leads law t outcome kept changes old new before after done items (subst (λ n. FinishesInto n outcome kept old before new after) (sym is) f) run ran sure sound leaves);
 }
 
 pub start_goes : StartLaw → (number : ℕ) (old new : OfficeState) (body : Option BegunBody) → IfSome body (λ b. StartsInto number old (body_seen b) new) → IsDeskRun new.run → least_of (desk_run old.run) ≡ Some number
-    → (notes : List Note) (done : Finished) (items : Items) → IfSome body (λ b. LeadsTo None (Some (begun_run number (body_seen b))) (scene_of old notes done items) (scene_of new notes done items))
+    → (notes : List Note) (done : DoneNow) (items : Items) → IfSome body (λ b. LeadsTo None (Some (begun_run number (body_seen b))) (scene_of old notes done items) (scene_of new notes done items))
 start_goes law number old new None h run least notes done items = tt
 start_goes law number old new (Some b) h run least notes done items = start_leads law number old new notes (body_seen b) done items h run least
 
@@ -144,59 +161,151 @@ start_aborted number old None due h = record { due = due; aborted = not_begun ol
 start_aborted number old (Some b) due h = tt
 
 -- ---- to its end
-pub scripted_leads : (number : ℕ) (body : ScriptedBody Script) (old mid new : OfficeState) (before between after : List Note) (tx last : SessionTxState) (outcome : Outcome) (kept : Option SchemaData) (done left : Finished) (items without_it with_it : Items) (writes : Bool)
+pub scripted_leads : (number : ℕ) (body : ScriptedBody Script) (old mid new : OfficeState) (before between after : List Note) (tx last : SessionTxState) (outcome : Outcome) (kept : Option SchemaData) (changes : List DeltaTree) (done : DoneNow) (items without_it with_it : Items)
     → tx ≡ begun_tx number body items → without_it ≡ without_part (scope_of_scripted body) items → RunsOnInto old before tx mid between last → last.end ≡ Some outcome → HasSureEnd last
-    → TxFinishes last outcome kept without_it with_it → EndLeads number outcome kept mid between new after → writes ≡ may_write (Scripted last.body) → left ≡ with_finish_of done number (did_commit outcome && writes)
-    → LeadsTo (Some (begun_run number (Scripted body))) None (scene_of old before done items) (scene_of new after left with_it)
-scripted_leads number body old mid new before between after tx last outcome kept done left items without_it with_it writes begins lacks runs ended sure ends leaves may left_is =
+    → TxFinishes last outcome kept changes without_it with_it → EndLeads number outcome kept mid between new after
+    → FitsWhole (part_of (scope_of_scripted body) items) body → are_unbroken with_it ≡ true
+    → LeadsTo (Some (begun_run number (Scripted body))) None (scene_of old before done items) (scene_of new after (with_finish_of done new.run number (did_commit outcome && may_write (Scripted last.body)) changes) with_it)
+scripted_leads number body old mid new before between after tx last outcome kept changes done items without_it with_it begins lacks runs ended sure ends leaves fits unbroken =
     let number_is : last.number ≡ number = runs.number ∙ ap (λ (t : SessionTxState). t.number) begins in
     let body_is : last.body ≡ body = runs.body ∙ ap (λ (t : SessionTxState). t.body) begins in
     let part_is : last.part ≡ part_of (scope_of_scripted last.body) items = runs.part ∙ ap (λ (t : SessionTxState). t.part) begins ∙ ap (λ (b : ScriptedBody Script). part_of (scope_of_scripted b) items) (sym body_is) in
     let first : run_seen tx ≡ begun_run number (Scripted body) = ap run_seen begins in
     let sure_is : is_in_doubt outcome ≡ false = ap is_in_doubt (some_outcome outcome sure.outcome (sym ended ∙ sure.end)) ∙ sure.sure in
-    let ran : RunsOn ScriptReacts ScriptWrites (part_of (scope_of_scripted last.body) items) (Scripted last.body) last.turns ends.changes kept false outcome =
-    subst (λ (p : Option Database). RunsOn ScriptReacts ScriptWrites p (Scripted last.body) last.turns ends.changes kept false outcome) part_is ends.runs in
-    let with_is : with_it ≡ left_items items outcome ends.changes = ends.leaves items (lacks ∙ ap (λ (b : ScriptedBody Script). without_part (scope_of_scripted b) items) (sym body_is)) part_is in
-    let left_so : left ≡ with_finish_of done number (did_commit outcome && may_write (Scripted last.body)) = left_is ∙ ap (λ w. with_finish_of done number (did_commit outcome && w)) may in
-    let end : LeadsTo (Some (run_seen last)) None (scene_of mid between done items) (scene_of new after left with_it) =
-    subst (λ (is : Items). LeadsTo (Some (run_seen last)) None (scene_of mid between done items) (scene_of new after left is)) (sym with_is)
-    (subst (λ (d : Finished). LeadsTo (Some (run_seen last)) None (scene_of mid between done items) (scene_of new after d (left_items items outcome ends.changes))) (sym left_so)
-    (leaves.goes (run_seen last) ends.changes done items number_is ran sure_is)) in
-    subst (λ (t : RunningTx). LeadsTo (Some t) None (scene_of old before done items) (scene_of new after left with_it)) first
-    (leads_again (Some (run_seen tx)) (Some (run_seen last)) None (scene_of old before done items) (scene_of mid between done items) (scene_of new after left with_it) (runs.goes done items) end)
+    let ran : RunsOn ScriptReacts ScriptWrites (part_of (scope_of_scripted last.body) items) (Scripted last.body) last.turns changes kept false outcome =
+    subst (λ (p : Option Database). RunsOn ScriptReacts ScriptWrites p (Scripted last.body) last.turns changes kept false outcome) part_is ends.runs in
+    let with_is : with_it ≡ left_items items outcome changes = ends.leaves items (lacks ∙ ap (λ (b : ScriptedBody Script). without_part (scope_of_scripted b) items) (sym body_is)) part_is in
+    let sound : LeavesSound (Scripted last.body) outcome changes items = record {
+      fits = subst (λ (b : ScriptedBody Script). FitsWhole (part_of (scope_of_scripted b) items) b) (sym body_is) fits;
+      unbroken = ap are_unbroken (sym with_is) ∙ unbroken;
+    } in
+    let end : LeadsTo (Some (run_seen last)) None (scene_of mid between done items) (scene_of new after (with_finish_of done new.run number (did_commit outcome && may_write (Scripted last.body)) changes) with_it) =
+    subst (λ (is : Items). LeadsTo (Some (run_seen last)) None (scene_of mid between done items) (scene_of new after (with_finish_of done new.run number (did_commit outcome && may_write (Scripted last.body)) changes) is)) (sym with_is)
+    (leaves.goes (run_seen last) changes done items number_is ran sure_is sound) in
+    subst (λ (t : RunningTx). LeadsTo (Some t) None (scene_of old before done items) (scene_of new after (with_finish_of done new.run number (did_commit outcome && may_write (Scripted last.body)) changes) with_it)) first
+    (leads_again (Some (run_seen tx)) (Some (run_seen last)) None (scene_of old before done items) (scene_of mid between done items) (scene_of new after (with_finish_of done new.run number (did_commit outcome && may_write (Scripted last.body)) changes) with_it) (runs.goes done items) end)
   where
     some_outcome : (a b : Outcome) → Some a ≡ Some b → a ≡ b
     some_outcome a b e = cc
 
+-- what is told of it
+commits_as : (trace : TxTrace) (r : DeskRun) (commits : List Commit) (b : Bool) → is_commit trace ≡ b
+    → commits ++ commits_at r.order (record_if b trace.number trace.deltas) ≡ commits_with commits (record trace { durability = durability_drawn r.order trace.number })
+commits_as trace r commits true is = ap (λ w. if w then commits ++ commit_of (record trace { durability = durability_drawn r.order trace.number }) ∷ [] else commits) (sym is)
+commits_as trace r commits false is = append-nil commits ∙ ap (λ w. if w then commits ++ commit_of (record trace { durability = durability_drawn r.order trace.number }) ∷ [] else commits) (sym is)
+
+pub finishes_so : (running : Option RunningTx) (number : ℕ) (trace told : TxTrace) (old new : OfficeState) (before after : List Note) (items left : Items) (b : Bool) → trace.number ≡ number → is_commit trace ≡ b → told ≡ record trace { durability = durability_drawn new.run.order trace.number }
+    → ((done : DoneNow) → LeadsTo running None (scene_of old before done items) (scene_of new after (with_finish_of done new.run number b trace.deltas) left)) → FinishLeads running number told old before items new after left
+finishes_so running number trace told old new before after items left b is commit told_is leads = record {
+  number_is = ap (λ (t : TxTrace). t.number) told_is ∙ is;
+  goes = λ done.
+      let finish : done.finish ++ number ∷ [] ≡ done.finish ++ trace.number ∷ [] = ap (λ n. done.finish ++ n ∷ []) (sym is) in
+      let commits : done.commits ++ commits_at new.run.order (record_if b number trace.deltas) ≡ commits_with done.commits (record trace { durability = durability_drawn new.run.order trace.number }) =
+      ap (λ n. done.commits ++ commits_at new.run.order (record_if b n trace.deltas)) (sym is) ∙ commits_as trace new.run done.commits b commit in
+      let same : with_finish_of done new.run number b trace.deltas ≡ done_with (record trace { durability = durability_drawn new.run.order trace.number }) done = λ i. record done { finish = finish i; commits = commits i } in
+      subst (λ (d : DoneNow). LeadsTo running None (scene_of old before done items) (scene_of new after d left)) (same ∙ ap (λ (t : TxTrace). done_with t done) (sym told_is)) (leads done);
+}
+
+pub commit_is : (trace : TxTrace) (outcome : Outcome) (body : TxBody Script) (m : Mode) → trace.outcome ≡ outcome → trace.mode ≡ m → may_write body ≡ not (is_read_only_mode m) → is_commit trace ≡ (did_commit outcome && may_write body)
+commit_is trace outcome body m outcome_is mode_is writes =
+    ap (λ o. has_committed o && not (only_reads trace.mode)) outcome_is ∙ ap (λ n. has_committed outcome && not (only_reads n)) mode_is ∙ same outcome m ∙ ap (λ w. did_commit outcome && w) (sym writes)
+  where
+    same : (o : Outcome) (n : Mode) → (has_committed o && not (only_reads n)) ≡ (did_commit o && not (is_read_only_mode n))
+    same Committed mode.ReadOnly = refl
+    same Committed mode.ReadWrite = refl
+    same Committed mode.VersionChange = refl
+    same (Aborted error doubt) n = refl
+
+pub deletion_so : (number : ℕ) (name : Name) (trace told : TxTrace) (old new : OfficeState) (before after : List Note) (items left : Items) → IsDeletionTrace number name trace → told ≡ record trace { durability = durability_drawn new.run.order trace.number }
+    → ((done : DoneNow) → LeadsTo (Some (begun_run number (Deletion name))) None (scene_of old before done items) (scene_of new after (with_finish_of done new.run number true (DropDatabase name ∷ [])) left))
+    → FinishLeads (Some (begun_run number (Deletion name))) number told old before items new after left
+deletion_so number name trace told old new before after items left is told_is leads =
+    finishes_so (Some (begun_run number (Deletion name))) number trace told old new before after items left true is.number_is (commit_is trace Committed (Deletion name) mode.VersionChange is.outcome is.mode refl) told_is
+    (λ done. subst (λ ds. LeadsTo (Some (begun_run number (Deletion name))) None (scene_of old before done items) (scene_of new after (with_finish_of done new.run number true ds) left)) (sym is.changes) (leads done))
+
+-- and can be logged
+pub loggable_so : (trace told : TxTrace) (durability : Durability) → told ≡ record trace { durability = durability } → is_commit told ≡ true → (trace.outcome ≡ Committed → AreLoggable trace.deltas × IsWithinLimit trace.deltas) → CanBeLogged told
+loggable_so trace told durability is commit can =
+    let committed : trace.outcome ≡ Committed = by_outcome trace.outcome refl (ap is_commit (sym is) ∙ commit) in
+    let both = can committed in
+    subst CanBeLogged (sym is) (record { count = both.1; parts = both.0 })
+  where
+    by_outcome : (o : Outcome) → trace.outcome ≡ o → is_commit (record trace { durability = durability }) ≡ true → trace.outcome ≡ Committed
+    by_outcome Committed e k = e
+    by_outcome (Aborted error doubt) e k = let no : is_commit (record trace { durability = durability }) ≡ false = ap (λ x. has_committed x && not (only_reads trace.mode)) e in cc
+
+-- one that never started
+pub never_logged : (trace : TxTrace) → is_committed trace.outcome ≡ false → is_commit trace ≡ false
+never_logged trace e = by_outcome trace.outcome e
+  where
+    by_outcome : (o : Outcome) → is_committed o ≡ false → (has_committed o && not (only_reads trace.mode)) ≡ false
+    by_outcome Committed k = cc
+    by_outcome (Aborted error doubt) k = refl
+
+pub dropped_so : (number : ℕ) (trace : TxTrace) (old new : OfficeState) (before after : List Note) (items : Items) → trace.number ≡ number → is_committed trace.outcome ≡ false
+    → ((done : DoneNow) → LeadsTo None None (scene_of old before done items) (scene_of new after (with_finish_of done new.run number false []) items)) → FinishLeads None number trace old before items new after items
+dropped_so number trace old new before after items is never leads = record {
+  number_is = is;
+  goes = λ done.
+      let none : commits_with done.commits trace ≡ done.commits = ap (λ w. if w then done.commits ++ commit_of trace ∷ [] else done.commits) (never_logged trace never) in
+      let finish : done.finish ++ number ∷ [] ≡ done.finish ++ trace.number ∷ [] = ap (λ n. done.finish ++ n ∷ []) (sym is) in
+      let commits : done.commits ++ [] ≡ commits_with done.commits trace = append-nil done.commits ∙ sym none in
+      let same : with_finish_of done new.run number false [] ≡ done_with trace done = λ i. record done { finish = finish i; commits = commits i } in
+      subst (λ (d : DoneNow). LeadsTo None None (scene_of old before done items) (scene_of new after d items)) same (leads done);
+}
+
+-- it starts first
+pub starts_finish : (number : ℕ) (body : TxBody Script) (trace : TxTrace) (old mid new : OfficeState) (before after : List Note) (items left : Items)
+    → ((done : DoneNow) → LeadsTo None (Some (begun_run number body)) (scene_of old before done items) (scene_of mid before done items))
+    → FinishLeads (Some (begun_run number body)) number trace mid before items new after left → FinishLeads None number trace old before items new after left
+starts_finish number body trace old mid new before after items left starts finishes = record {
+  number_is = finishes.number_is;
+  goes = λ done. leads_again None (Some (begun_run number body)) None (scene_of old before done items) (scene_of mid before done items) (scene_of new after (done_with trace done) left) (starts done) (finishes.goes done);
+}
+
+-- the commits with it apply
+pub enters_so : (trace : TxTrace) (old new : OfficeState) (before after : List Note) (done : DoneNow) (items left : Items) (number : ℕ) → StandsOn None (scene_of old before done items) → FinishLeads None number trace old before items new after left
+    → is_commit trace ≡ true → commits_apply done.opening (done.commits ++ commit_of trace ∷ []) ≡ true
+enters_so trace old new before after done items left number on leads commit =
+    let there = stands_behind None None (scene_of old before done items) (scene_of new after (done_with trace done) left) on (leads.goes done) in
+    let commits : commits_with done.commits trace ≡ done.commits ++ commit_of trace ∷ [] = ap (λ w. if w then done.commits ++ commit_of trace ∷ [] else done.commits) commit in
+    let apply : after_records done.opening (records_of_commits (done.commits ++ commit_of trace ∷ [])) ≡ Some left =
+    ap (λ cs. after_records done.opening (records_of_commits cs)) (sym commits ∙ sym there.at.commits) ∙ there.driven.logged ∙ ap (λ (is : Items). Some is) there.at.items in
+    ap is_some apply
+
 -- the desk lets it finish
-pub scripted_allowed : FinishesLaw → (number : ℕ) (body : ScriptedBody Script) (old mid : OfficeState) (before between : List Note) (tx last : SessionTxState) (outcome : Outcome) (kept : Option SchemaData) (done : Finished) (items without_it with_it : Items)
-    → tx ≡ begun_tx number body items → RunsOnInto old before tx mid between last → TxFinishes last outcome kept without_it with_it → StandsOn (Some (begun_run number (Scripted body))) (scene_of old before done items) → HoldsTx mid number
+pub scripted_allowed : FinishesLaw → (number : ℕ) (body : ScriptedBody Script) (old mid : OfficeState) (before between : List Note) (tx last : SessionTxState) (outcome : Outcome) (kept : Option SchemaData) (changes : List DeltaTree) (done : DoneNow) (items without_it with_it : Items)
+    → tx ≡ begun_tx number body items → RunsOnInto old before tx mid between last → TxFinishes last outcome kept changes without_it with_it → StandsOn (Some (begun_run number (Scripted body))) (scene_of old before done items) → HoldsTx mid number
     → is_allowed (desk_run mid.run) (step.Leaves mid.client.number number outcome kept) ≡ true
-scripted_allowed law number body old mid before between tx last outcome kept done items without_it with_it begins runs ends on holds =
+scripted_allowed law number body old mid before between tx last outcome kept changes done items without_it with_it begins runs ends on holds =
     let number_is : last.number ≡ number = runs.number ∙ ap (λ (t : SessionTxState). t.number) begins in
     let first : run_seen tx ≡ begun_run number (Scripted body) = ap run_seen begins in
     let there : StandsOn (Some (run_seen last)) (scene_of mid between done items) =
     stands_behind (Some (run_seen tx)) (Some (run_seen last)) (scene_of old before done items) (scene_of mid between done items)
     (subst (λ (t : RunningTx). StandsOn (Some t) (scene_of old before done items)) (sym first) on) (runs.goes done items) in
     subst (λ n. is_allowed (desk_run mid.run) (step.Leaves mid.client.number n outcome kept) ≡ true) number_is
-    (allowed_finish law (run_seen last) mid between last.part last.turns ends.changes kept outcome (works_on (Some (run_seen last)) mid between done items there) (subst (HoldsTx mid) (sym number_is) holds) ends.runs)
+    (allowed_finish law (run_seen last) mid between last.part last.turns changes kept outcome (works_on (Some (run_seen last)) mid between done items there) (subst (HoldsTx mid) (sym number_is) holds) ends.runs)
 
-pub deletion_allowed : FinishesLaw → (number : ℕ) (name : Name) (o : OfficeState) (notes : List Note) (done : Finished) (items : Items) → StandsOn (Some (begun_run number (Deletion name))) (scene_of o notes done items) → HoldsTx o number
+pub deletion_allowed : FinishesLaw → (number : ℕ) (name : Name) (o : OfficeState) (notes : List Note) (done : DoneNow) (items : Items) → StandsOn (Some (begun_run number (Deletion name))) (scene_of o notes done items) → HoldsTx o number
     → is_allowed (desk_run o.run) (step.Leaves o.client.number number Committed None) ≡ true
 deletion_allowed law number name o notes done items on holds =
     allowed_finish law (begun_run number (Deletion name)) o notes None [] (DropDatabase name ∷ []) None Committed (works_on (Some (begun_run number (Deletion name))) o notes done items on) holds (refl, refl, (refl, refl))
 
-pub is_finished : (old new : Finished) (number : ℕ) (b : Bool) → new ≡ with_finish_of old number b → length new.finish < beyond_memory → FinishedWith old number new
-is_finished old new number b is few = record { finish = ap (λ (d : Finished). d.finish) is; few = few }
+pub is_finished : (old new : DoneNow) (number : ℕ) → new.finish ≡ old.finish ++ number ∷ [] → length new.finish < beyond_memory → FinishedWith old number new
+is_finished old new number is few = record { finish = is; few = few }
 
-pub deletion_leads : (number : ℕ) (name : Name) (old new : OfficeState) (before after : List Note) (done left : Finished) (items with_it : Items)
-    → EndLeads number Committed None old before new after → with_it ≡ applied_all items (DropDatabase name ∷ []) → left ≡ with_finish_of done number true
-    → LeadsTo (Some (begun_run number (Deletion name))) None (scene_of old before done items) (scene_of new after left with_it)
-deletion_leads number name old new before after done left items with_it leaves with_is left_is =
+pub deletion_leads : (number : ℕ) (name : Name) (old new : OfficeState) (before after : List Note) (done : DoneNow) (items with_it : Items)
+    → EndLeads number Committed None old before new after → with_it ≡ applied_all items (DropDatabase name ∷ []) → is_some (finite.get items name) ≡ true → are_unbroken with_it ≡ true
+    → LeadsTo (Some (begun_run number (Deletion name))) None (scene_of old before done items) (scene_of new after (with_finish_of done new.run number true (DropDatabase name ∷ [])) with_it)
+deletion_leads number name old new before after done items with_it leaves with_is there unbroken =
     let t : RunningTx = begun_run number (Deletion name) in
-    subst (λ (is : Items). LeadsTo (Some t) None (scene_of old before done items) (scene_of new after left is)) (sym with_is)
-    (subst (λ (d : Finished). LeadsTo (Some t) None (scene_of old before done items) (scene_of new after d (applied_all items (DropDatabase name ∷ [])))) (sym left_is)
-    (leaves.goes t (DropDatabase name ∷ []) done items refl (refl, refl, (refl, refl)) refl))
+    let sound : LeavesSound (Deletion name) Committed (DropDatabase name ∷ []) items = record { fits = whole_there (finite.get items name) there; unbroken = ap are_unbroken (sym with_is) ∙ unbroken } in
+    subst (λ (is : Items). LeadsTo (Some t) None (scene_of old before done items) (scene_of new after (with_finish_of done new.run number true (DropDatabase name ∷ [])) is)) (sym with_is)
+    (leaves.goes t (DropDatabase name ∷ []) done items refl (refl, refl, (refl, refl)) refl sound)
+  where
+    whole_there : (o : Option Database) → is_some o ≡ true → is_some (seen_by Whole o) ≡ true
+    whole_there None e = cc
+    whole_there (Some d) e = refl
 
 -- ---- without starting
 some_body : (a b : TxBody Script) → Some a ≡ Some b → a ≡ b
@@ -221,13 +330,12 @@ one_turn_added before after lines added = added ∙ ap (λ ls. before ++ ls) (sy
     nothing_more [] = refl
     nothing_more (x ∷ xs) = ap (λ ys. x ∷ ys) (nothing_more xs)
 
-pub dropped_leads : CancelLaw → (number : ℕ) (body : ScriptedBody Script) (outcome : Outcome) (tx : ClientTx) (old new : OfficeState) (before told after : List Note) (done left : Finished) (items : Items)
+pub dropped_leads : CancelLaw → (number : ℕ) (body : ScriptedBody Script) (outcome : Outcome) (tx : ClientTx) (old new : OfficeState) (before told after : List Note) (done : DoneNow) (items : Items)
     → (e : EndsUnstarted body outcome before told) → FinishesUnstartedInto number (e.lines ∷ []) outcome old before new after → IsDeskRun new.run → least_of (desk_run old.run) ≡ Some number → tx_at old.client number ≡ Some tx → Scripted body ≡ tx.body
-    → left ≡ with_finish_of done number false → LeadsTo None None (scene_of old before done items) (scene_of new after left items)
-dropped_leads law number body outcome tx old new before told after done left items e f run least found held left_is =
-    subst (λ (d : Finished). LeadsTo None None (scene_of old before done items) (scene_of new after d items)) (sym left_is)
-    (cancel_leads law number (e.lines ∷ []) outcome tx old new before after done items f run least found
-    (subst (λ (b : TxBody Script). NeverStarts ScriptReacts ScriptWrites b (e.lines ∷ []) [] None false outcome) held e.never))
+    → LeadsTo None None (scene_of old before done items) (scene_of new after (with_finish_of done new.run number false []) items)
+dropped_leads law number body outcome tx old new before told after done items e f run least found held =
+    cancel_leads law number (e.lines ∷ []) outcome tx old new before after done items f run least found
+    (subst (λ (b : TxBody Script). NeverStarts ScriptReacts ScriptWrites b (e.lines ∷ []) [] None false outcome) held e.never)
 
 -- ---- what its body aborted
 pub aborted_scripted : (body : TxBody Script) → may_begin body ≡ false → (b : ScriptedBody Script) × (body ≡ Scripted b)
@@ -262,7 +370,7 @@ pub no_outcome : {X : Type 0} (o : Option X) (b : Bool) → o ≡ None → is_so
 no_outcome o b none some there = absurd (let e : false ≡ true = ap is_some (sym none) ∙ some ∙ there in cc)
 
 -- ---- a move
-pub tx_moved : (next left : ℕ) (old new : Finished) (number : ℕ) → next ≤ left → FinishedWith old number new → next + (beyond_memory - length new.finish) < left + (beyond_memory - length old.finish)
+pub tx_moved : (next left : ℕ) (old new : DoneNow) (number : ℕ) → next ≤ left → FinishedWith old number new → next + (beyond_memory - length new.finish) < left + (beyond_memory - length old.finish)
 tx_moved next left old new number less h = over next left (length old.finish) (length new.finish) less (ap length h.finish ∙ one_more old.finish number) h.few
   where
     one_more : (ns : List ℕ) (n : ℕ) → length (ns ++ n ∷ []) ≡ length ns + 1

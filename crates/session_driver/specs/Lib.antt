@@ -5,3 +5,5 @@ pub mod Choosing
 pub mod Serving
 pub mod Running
 pub mod Reporting
+pub mod Halting
+pub mod Ending

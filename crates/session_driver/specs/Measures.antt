@@ -8,7 +8,6 @@ use Rattle.std.specs.Prelude.{ℕ, ◌+◌, ◌-◌, ◌^◌, List, [], ◌∷�
 use Rattle.script_runs.specs.declared.notes.Note.{Note}
 use Rattle.client_machine.specs.ClientStates.{ClientState}
 use Rattle.client_machine.specs.declared.limits.TheConstants.{GREATEST_POST_COUNT}
-use Rattle.session_driver.specs.declared.finished.Finished.{Finished}
 use Rattle.session_driver.specs.declared.seats.Seat.{Seat}
 
 abbrev pub beyond_memory : ℕ
@@ -24,5 +23,5 @@ abbrev pub seats_left : List Seat → ℕ
 seats_left [] = 0
 seats_left (s ∷ ss) = left_to s.client s.notes + seats_left ss
 
-abbrev pub session_left : List Seat → Finished → ℕ
-session_left seats done = seats_left seats + (beyond_memory - length done.finish)
+abbrev pub session_left : List Seat → List ℕ → ℕ
+session_left seats finish = seats_left seats + (beyond_memory - length finish)

@@ -1,19 +1,33 @@
 -- What the steps of one client can change of a session, and what they lead to.
---     Scene                 the client in its office, what it noted, the numbers of the transactions that finished and of those
---                           that committed and may write, and the databases
+--     DoneNow               the databases that the session began on, the numbers of the transactions that finished, and those that
+--                           committed and may write, as a log has them
+--     done_in               as the session's book has them
+--     Scene                 the client in its office, what it noted, what is done, and the databases
 --     scene_of, seat_on     a scene;  the client's seat in it
 --     IsSceneAt             what is held of the session is so at this place
 --     with_scene            and is so then
---     IsDriven              a session that its driver can go on with: it is under way, its clients fit its desk, and its databases
---                           are those of the desk
+--     IsOpening             databases as a log gives them: each is as the standard asks, and they are within the limits
+--     IsDriven              a session that its driver can go on with: it is under way, its clients fit its desk, its databases
+--                           are those of the desk, and those that its commits give, applied to those that it began on
 --     LeadsTo               where it was so, and the driver could go on, it can go on behind, and no more is left to do
 --     KeepsOn               steps of a client that leave what runs as it is
 --     StandsOn              a scene is that of a client of such a session
 --     IsAtWork              so is that of this office and these notes
---     commit_numbers        the numbers of those that committed, with one more where it did
---     with_finish_of        those that finished, with one more
-use Rattle.std.specs.Prelude.{◌≡◌, ◌≤◌, ℕ, Bool, List, [], ◌∷◌, ◌++◌, slice_get, slice_set, if◌then◌else◌, Option, Some}
+--     record_if             the record of one that committed and may write
+--     with_finish_of        what is done, with one more that finished, which committed and may write or not
+--     done_with             the same, as its trace tells it
+use Rattle.std.specs.Prelude.{◌≡◌, ◌≤◌, ℕ, Bool, true, List, [], ◌∷◌, ◌++◌, slice_get, slice_set, if◌then◌else◌, Option, Some}
+use Rattle.idb_calls.specs.Deltas.{DeltaTree}
+use Rattle.idb_calls.specs.declared.traces.TxTrace.{TxTrace}
+use Rattle.idb_desk.specs.Steps.{DeskRun}
 use Rattle.item_changes.specs.Items.{Items}
+use Rattle.idb_databases.specs.Items.{AreItems, is_within_limits}
+use Rattle.record_bytes.specs.declared.records.LogRecord.{LogRecord}
+use Rattle.log_history.specs.Batching.{Commit, records_of_commits}
+use Rattle.log_history.specs.Replayed.{after_records}
+use Rattle.legal_sessions.specs.Legal.{commits_at}
+use Rattle.session_books.specs.States.{SessionBookState}
+use Rattle.session_books.specs.Entering.{commits_with}
 use Rattle.script_statements.specs.declared.script.Client.{Client}
 use Rattle.script_statements.specs.declared.script.ScriptSession.{ScriptSession}
 use Rattle.script_runs.specs.declared.notes.Note.{Note}
@@ -23,18 +37,24 @@ use Rattle.session_states.specs.UnderWay.{IsUnderWay}
 use Rattle.session_facts.specs.Fitting.{IsFitting}
 use Rattle.session_facts.specs.Showing.{IsShown}
 use Rattle.task_statements.specs.Offices.{OfficeState}
-use Rattle.session_driver.specs.declared.finished.Finished.{Finished}
 use Rattle.session_driver.specs.Measures.{left_to}
+
+pub record DoneNow : Type 0 where
+  pub opening : Items
+  pub finish : List ℕ
+  pub commits : List Commit
+
+abbrev pub done_in : {D : Type 0} → SessionBookState D → DoneNow
+done_in book = record { opening = book.opening; finish = book.finished; commits = book.commits }
 
 pub record Scene : Type 0 where
   pub office : OfficeState
   pub notes : List Note
-  pub finish : List ℕ
-  pub commits : List ℕ
+  pub done : DoneNow
   pub items : Items
 
-abbrev pub scene_of : OfficeState → List Note → Finished → Items → Scene
-scene_of office notes done items = record { office = office; notes = notes; finish = done.finish; commits = done.commits; items = items }
+abbrev pub scene_of : OfficeState → List Note → DoneNow → Items → Scene
+scene_of office notes done items = record { office = office; notes = notes; done = done; items = items }
 
 abbrev pub seat_on : Scene → SeatNow
 seat_on s = record { client = s.office.client; notes = s.notes }
@@ -46,44 +66,54 @@ pub record IsSceneAt (session : ScriptSession) (now : SessionNow) (place : ℕ) 
   pub blocks : s.office.blocks ≡ script.blocks
   pub seat_at : slice_get now.seats place ≡ Some (seat_on s)
   pub run : now.run ≡ s.office.run
-  pub finish : now.finish ≡ s.finish
-  pub commits : now.commits ≡ s.commits
+  pub finish : now.finish ≡ s.done.finish
+  pub commits : now.commits ≡ s.done.commits
   pub items : now.items ≡ s.items
 
 abbrev pub with_scene : ℕ → Scene → SessionNow → SessionNow
-with_scene place s now = record { run = s.office.run; seats = slice_set now.seats place (seat_on s); finish = s.finish; commits = s.commits; items = s.items }
+with_scene place s now = record { run = s.office.run; seats = slice_set now.seats place (seat_on s); finish = s.done.finish; commits = s.done.commits; items = s.items }
+
+pub record IsOpening (opening : Items) : Type 0 where
+  pub items : AreItems opening
+  pub within : is_within_limits opening ≡ true
 
 pub record IsDriven (session : ScriptSession) (opening : Items) (now : SessionNow) (running : Option RunningTx) : Type 0 where
   pub under_way : IsUnderWay session opening now running
   pub fits : IsFitting now
   pub shown : IsShown now
+  pub opened : IsOpening opening
+  pub logged : after_records opening (records_of_commits now.commits) ≡ Some now.items
 
 -- what runs before, and behind
 pub record LeadsTo (running next : Option RunningTx) (s last : Scene) : Type 0 where
   pub blocks : last.office.blocks ≡ s.office.blocks
+  pub opening : last.done.opening ≡ s.done.opening
   pub less : left_to last.office.client last.notes ≤ left_to s.office.client s.notes
-  pub leads : (session : ScriptSession) (opening : Items) (now : SessionNow) (place : ℕ) → IsSceneAt session now place s → IsDriven session opening now running → IsDriven session opening (with_scene place last now) next
+  pub leads : (session : ScriptSession) (now : SessionNow) (place : ℕ) → IsSceneAt session now place s → IsDriven session s.done.opening now running → IsDriven session last.done.opening (with_scene place last now) next
 
 pub record KeepsOn (old : OfficeState) (before : List Note) (new : OfficeState) (after : List Note) : Type 0 where
-  pub goes : (running : Option RunningTx) (done : Finished) (items : Items) → LeadsTo running running (scene_of old before done items) (scene_of new after done items)
+  pub goes : (running : Option RunningTx) (done : DoneNow) (items : Items) → LeadsTo running running (scene_of old before done items) (scene_of new after done items)
 
 -- ---- where a client stands
 pub record StandsOn (running : Option RunningTx) (s : Scene) : Type 0 where
   pub session : ScriptSession
-  pub opening : Items
   pub now : SessionNow
   pub place : ℕ
   pub at : IsSceneAt session now place s
-  pub driven : IsDriven session opening now running
+  pub driven : IsDriven session s.done.opening now running
 
 pub record IsAtWork (running : Option RunningTx) (office : OfficeState) (notes : List Note) : Type 0 where
-  pub done : Finished
+  pub done : DoneNow
   pub items : Items
   pub on : StandsOn running (scene_of office notes done items)
 
--- ---- the numbers of those that finished
-abbrev pub commit_numbers : List ℕ → ℕ → Bool → List ℕ
-commit_numbers commits number commits_too = if commits_too then commits ++ number ∷ [] else commits
+-- ---- those that finished
+abbrev pub record_if : Bool → ℕ → List DeltaTree → List LogRecord
+record_if commits_too number changes = if commits_too then record { number = number; deltas = changes } ∷ [] else []
 
-abbrev pub with_finish_of : Finished → ℕ → Bool → Finished
-with_finish_of done number commits_too = record { finish = done.finish ++ number ∷ []; commits = commit_numbers done.commits number commits_too }
+-- by the order of this run
+abbrev pub with_finish_of : DoneNow → DeskRun → ℕ → Bool → List DeltaTree → DoneNow
+with_finish_of done r number commits_too changes = record done { finish = done.finish ++ number ∷ []; commits = done.commits ++ commits_at r.order (record_if commits_too number changes) }
+
+abbrev pub done_with : TxTrace → DoneNow → DoneNow
+done_with trace done = record done { finish = done.finish ++ trace.number ∷ []; commits = commits_with done.commits trace }

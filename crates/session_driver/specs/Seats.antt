@@ -9,9 +9,8 @@ use Rattle.item_changes.specs.Items.{Items}
 use Rattle.script_statements.specs.declared.script.Client.{Client}
 use Rattle.script_statements.specs.declared.script.ScriptSession.{ScriptSession}
 use Rattle.session_states.specs.Sessions.{SeatNow, SessionNow}
-use Rattle.session_driver.specs.declared.finished.Finished.{Finished}
 use Rattle.session_driver.specs.declared.seats.Seat.{Seat}
-use Rattle.session_driver.specs.Scenes.{IsDriven}
+use Rattle.session_driver.specs.Scenes.{DoneNow, IsDriven}
 
 abbrev pub seat_seen : Seat → SeatNow
 seat_seen s = record { client = s.client; notes = s.notes }
@@ -19,9 +18,9 @@ seat_seen s = record { client = s.client; notes = s.notes }
 abbrev pub script_of_seat : Seat → Client
 script_of_seat s = arc_value s.script
 
-abbrev pub session_seen : DeskRun → List Seat → Finished → Items → SessionNow
+abbrev pub session_seen : DeskRun → List Seat → DoneNow → Items → SessionNow
 session_seen r seats done items = record { run = r; seats = map seat_seen seats; finish = done.finish; commits = done.commits; items = items }
 
-pub record IsDriving (session : ScriptSession) (opening : Items) (r : DeskRun) (seats : List Seat) (done : Finished) (items : Items) : Type 0 where
-  pub driven : IsDriven session opening (session_seen r seats done items) None
+pub record IsDriving (session : ScriptSession) (r : DeskRun) (seats : List Seat) (done : DoneNow) (items : Items) : Type 0 where
+  pub driven : IsDriven session done.opening (session_seen r seats done items) None
   pub scripts : map script_of_seat seats ≡ session.clients

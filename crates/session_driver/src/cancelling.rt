@@ -1,19 +1,23 @@
 // A transaction that its body aborted finishes without starting.
-ghost use Rattle.std.specs.Prelude.{◌≡◌, Some, None, OnOk};
+ghost use Rattle.std.specs.Prelude.{◌≡◌, false, Some, None, IfOk};
 ghost use Rattle.item_changes.specs.Items.{Items};
 ghost use Rattle.serial_order.specs.FinishEntries.{ScriptedBody, Scripted};
 ghost use Rattle.script_handlers.specs.Handling.{Script};
 ghost use Rattle.client_parts.specs.Holding.{begun_seen};
-ghost use Rattle.session_driver.specs.Running.{WasAborted, FinishedWith};
-ghost use Rattle.session_driver.specs.Scenes.{scene_of, LeadsTo, IsAtWork};
+ghost use Rattle.session_books.specs.Entering.{is_commit};
+ghost use Rattle.session_driver.specs.Running.{WasAborted, FinishLeads};
+ghost use Rattle.session_driver.specs.Scenes.{IsAtWork};
 
-use crate::finished::{Finished, note_finish};
 use crate::seats::is_run;
 use client_parts::{BegunBody, BegunTx};
 use client_tasks::Office;
 use idb_base::NoMemory;
+use idb_calls::TxTrace;
+use script_handlers::ScriptHandler;
 use script_runs::Notes;
+use serial_order::{applying_laws, serial_laws};
 use session_facts::{fitting_laws, showing_laws, telling_laws};
+use session_limits::{limit_laws, resting_laws};
 use session_states::step_laws;
 use session_txs::cancel_begun;
 use std::alloc::Global;
@@ -30,38 +34,40 @@ fn scripted_of(body: Option<BegunBody>) -> BegunTx
     }
 }
 
-/// The least transaction that isn't finished, which its body aborted, finishes without starting.
+/// The least transaction that isn't finished, which its body aborted, finishes without starting; what is told of it.
 pub(crate) fn cancel_tx(
     alloc: Global,
     office: &mut Office,
     number: u64,
     notes: &mut Notes,
-    done: &mut Finished,
-) -> Result<(), NoMemory>
+) -> Result<TxTrace, NoMemory>
     requires aborted { WasAborted office.old number }
     requires at { IsAtWork None office.old notes.old }
-    ensures leads { (items : Items) → OnOk result (LeadsTo None None
-        (scene_of office.old notes.old done.old items) (scene_of office.new notes.new done.new items)) }
-    ensures finishes { OnOk result (FinishedWith done.old number done.new) }
+    ensures leads { (items : Items) → IfOk result (λ trace. FinishLeads None number trace
+        office.old notes.old items office.new notes.new items) }
+    ensures loggable { IfOk result (λ trace. is_commit trace ≡ false) }
 {
     step_laws();
     fitting_laws();
     showing_laws();
     telling_laws();
+    limit_laws();
+    resting_laws();
+    applying_laws::<ScriptHandler>();
+    serial_laws::<ScriptHandler>();
     let Some(tx) = office.take_unstarted(number) else {
         unreachable!()
     };
     let (kind, body) = tx.into_parts();
     let begun = scripted_of(body);
     let from = notes.len();
-    let Some(outcome) = cancel_begun(alloc, number, begun, notes)? else {
+    let Some(trace) = cancel_begun(alloc, number, begun, notes)? else {
         unreachable!()
     };
-    let finished = office.finish_unstarted(alloc, kind, number, outcome, notes, from)?;
+    let finished = office.finish_unstarted(alloc, kind, number, trace.outcome, notes, from)?;
     if !finished {
         unreachable!();
     }
     is_run(office.desk());
-    note_finish(done, number, false)?;
-    Ok(())
+    Ok(trace)
 }

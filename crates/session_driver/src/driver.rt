@@ -1,62 +1,77 @@
 // The driver.
-ghost use Rattle.std.specs.Prelude.{◌≡◌, ◌<◌, ◌+◌, ◌-◌, ℕ, true, false, length, Some, IfOk, OnOk};
+ghost use Rattle.std.specs.Prelude.{◌≡◌, ◌<◌, ◌≤◌, ◌+◌, ◌-◌, ℕ, true, false, [], length, map, Some, None, IfOk, OnOk, OnErr, IsErrOf};
 ghost use Rattle.std.specs.FinMap as finite;
 ghost use Rattle.item_changes.specs.Items.{Items};
 ghost use Rattle.idb_desk.specs.Steps.{desk_run};
 ghost use Rattle.scope_desk.specs.Starts.{may_start};
 ghost use Rattle.scope_desk.specs.declared.unfinished.MayStart.TheVariants.{Go};
-ghost use Rattle.session_driver.specs.declared.finished.Finished.{Finished};
-ghost use Rattle.legal_sessions.specs.Legal.{IsLegalReport};
+ghost use Rattle.edge_traits.specs.Faults.{Rose};
+ghost use Rattle.log_history.specs.Kept.{Dropped};
+ghost use Rattle.legal_sessions.specs.Legal.{has_of};
 ghost use Rattle.session_states.specs.Sessions.{IsAtEnd};
 ghost use Rattle.session_driver.specs.Choosing.{next_move, IsMoveOf, IsChosen};
 ghost use Rattle.session_driver.specs.Measures.{beyond_memory, left_to, session_left};
-ghost use Rattle.session_driver.specs.Scenes.{scene_of, LeadsTo, StandsOn};
+ghost use Rattle.session_driver.specs.Scenes.{DoneNow, done_in, scene_of, LeadsTo, StandsOn};
 ghost use Rattle.session_driver.specs.declared.choosing.NextMove.TheVariants as move;
+ghost use Rattle.idb_databases.specs.Items.{is_within_limits};
+ghost use Rattle.gate_log.specs.Log.{disk_of, failed_at};
+ghost use Rattle.session_books.specs.States.{HoldsItems};
+ghost use Rattle.session_driver.specs.Ending.{BeginsOn, own_log_end, ReportsOn, StopsOn};
 ghost use Rattle.session_driver.specs.Seats.{session_seen, IsDriving};
 
 use crate::choosing::{NextMove, next_move};
-use crate::finished::Finished;
+use crate::entering::Halt;
 use crate::reporting::report_of;
 use crate::running::run_tx;
 use crate::seats::{Seat, put_back, seats_of, shared};
 use crate::serving::serve;
 use client_tasks::Office;
-use clone_values::Numbers;
+use disk_trait::Disk;
 use edge_traits::Gate;
 use idb_base::NoMemory;
+use idb_databases::Databases;
 use idb_desk::{Desk, desk_laws};
-use idb_schema::Schemas;
+use idb_recovery::Opened;
 use index_tables::Tables;
-use report_lines::Report;
+use report_lines::{Opening, Report};
 use script_runs::Notes;
 use script_statements::ScriptSession;
+use session_books::SessionBook;
 use session_databases::SessionDatabases;
 use session_facts::{fitting_laws, showing_laws};
+use session_openings::{SessionOpening, open_databases};
 use session_states::under_way_laws;
 use std::alloc::Global;
 use std::snapshot::Snapshot;
 
 /// In its office a client runs the transaction of this number, or where none is named is served.
-fn move_in<T: Tables, G: Gate>(
+fn move_in<T: Tables, D: Disk, G: Gate>(
     alloc: Global,
     gate: &G,
     office: &mut Office,
     number: Option<u64>,
     notes: &mut Notes,
     databases: &mut SessionDatabases<T>,
-    done: &mut Finished,
-) -> Result<(), NoMemory>
+    book: &mut SessionBook<D, T>,
+) -> Result<(), Halt>
     requires due { IsMoveOf office.old.run office.old.client number }
-    requires on { StandsOn None (scene_of office.old notes.old done.old databases.old) }
+    requires on { StandsOn None (scene_of office.old notes.old (done_in book.old) databases.old) }
+    requires runs { book.old.end ≡ Dropped }
     ensures leads { OnOk result (LeadsTo None None
-        (scene_of office.old notes.old done.old databases.old)
-        (scene_of office.new notes.new done.new databases.new)) }
-    ensures less { OnOk result (left_to office.new.client notes.new + (beyond_memory - length done.new.finish)
-        < left_to office.old.client notes.old + (beyond_memory - length done.old.finish)) }
+        (scene_of office.old notes.old (done_in book.old) databases.old)
+        (scene_of office.new notes.new (done_in book.new) databases.new)) }
+    ensures less { OnOk result (left_to office.new.client notes.new + (beyond_memory - length book.new.finished)
+        < left_to office.old.client notes.old + (beyond_memory - length book.old.finished)) }
+    ensures runs { OnOk result (book.new.end ≡ Dropped) }
+
+    ensures opening { book.new.opening ≡ book.old.opening }
+    ensures disk_fault { IsErrOf result Halt.DiskFault
+        → Rose (D.shows book.old.log.disk).faults (D.shows book.new.log.disk).faults }
+    ensures count { (D.shows book.old.log.disk).faults ≤ (D.shows book.new.log.disk).faults }
 {
     match number {
         Some(number) => {
-            run_tx(alloc, gate, office, number, notes, databases, done)?;
+            run_tx(alloc, gate, office, number, notes, databases, book)?;
             Ok(())
         }
         None => {
@@ -67,7 +82,7 @@ fn move_in<T: Tables, G: Gate>(
 }
 
 /// The client of this place makes a move.
-fn move_client<T: Tables, G: Gate>(
+fn move_client<T: Tables, D: Disk, G: Gate>(
     alloc: Global,
     gate: &G,
     of: &Snapshot<ScriptSession>,
@@ -76,14 +91,21 @@ fn move_client<T: Tables, G: Gate>(
     number: Option<u64>,
     seats: &mut Vec<Seat>,
     databases: &mut SessionDatabases<T>,
-    done: &mut Finished,
-) -> Result<Desk, NoMemory>
-    requires driving { IsDriving of.now.value finite.empty desk seats.old.items done.old databases.old }
+    book: &mut SessionBook<D, T>,
+) -> Result<Desk, Halt>
+    requires driving { IsDriving of.now.value desk seats.old.items (done_in book.old) databases.old }
     requires chosen { IsChosen desk seats.old.items place number }
+    requires runs { book.old.end ≡ Dropped }
     ensures driving { IfOk result (λ last.
-        IsDriving of.now.value finite.empty last seats.new.items done.new databases.new) }
+        IsDriving of.now.value last seats.new.items (done_in book.new) databases.new) }
     ensures less { OnOk result
-        (session_left seats.new.items done.new < session_left seats.old.items done.old) }
+        (session_left seats.new.items book.new.finished < session_left seats.old.items book.old.finished) }
+    ensures runs { OnOk result (book.new.end ≡ Dropped) }
+
+    ensures opening { book.new.opening ≡ book.old.opening }
+    ensures disk_fault { IsErrOf result Halt.DiskFault
+        → Rose (D.shows book.old.log.disk).faults (D.shows book.new.log.disk).faults }
+    ensures count { (D.shows book.old.log.disk).faults ≤ (D.shows book.new.log.disk).faults }
 {
     let seat = seats.remove(place);
     let Seat {
@@ -101,7 +123,7 @@ fn move_client<T: Tables, G: Gate>(
         number,
         &mut notes,
         databases,
-        done,
+        book,
     )?;
     let (desk, client) = office.into_parts();
     put_back(
@@ -118,8 +140,8 @@ fn move_client<T: Tables, G: Gate>(
 
 /// The place of the client whose transaction is the least that isn't finished.
 fn place_of(of: &Snapshot<ScriptSession>, desk: &Desk, seats: &[Seat], number: u64) -> usize
-    requires driving { (done : Finished) × ((items : Items)
-        × IsDriving of.now.value finite.empty desk.now seats.now done items) }
+    requires driving { (done : DoneNow) × ((items : Items)
+        × IsDriving of.now.value desk.now seats.now done items) }
     requires next { next_move (desk_run desk.now) seats.now ≡ move.Transaction number }
     requires may_start { may_start (desk_run desk.now).board.scopes number ≡ Go }
     ensures { IsChosen desk.now seats.now result (Some number) }
@@ -133,25 +155,32 @@ fn place_of(of: &Snapshot<ScriptSession>, desk: &Desk, seats: &[Seat], number: u
 }
 
 /// The next move is made; none where nothing is left.
-fn advance<T: Tables, G: Gate>(
+fn advance<T: Tables, D: Disk, G: Gate>(
     alloc: Global,
     gate: &G,
     of: &Snapshot<ScriptSession>,
     desk: Desk,
     seats: &mut Vec<Seat>,
     databases: &mut SessionDatabases<T>,
-    done: &mut Finished,
-) -> Result<(Desk, bool), NoMemory>
-    requires { IsDriving of.now.value finite.empty desk seats.old.items done.old databases.old }
+    book: &mut SessionBook<D, T>,
+) -> Result<(Desk, bool), Halt>
+    requires driving { IsDriving of.now.value desk seats.old.items (done_in book.old) databases.old }
+    requires runs { book.old.end ≡ Dropped }
     ensures driving { IfOk result (λ r.
-        IsDriving of.now.value finite.empty r.0 seats.new.items done.new databases.new) }
+        IsDriving of.now.value r.0 seats.new.items (done_in book.new) databases.new) }
     ensures end { IfOk result (λ r. r.1 ≡ false → next_move (desk_run r.0) seats.new.items ≡ move.Nothing) }
     ensures less { IfOk result (λ r. r.1 ≡ true
-        → session_left seats.new.items done.new < session_left seats.old.items done.old) }
+        → session_left seats.new.items book.new.finished < session_left seats.old.items book.old.finished) }
+    ensures runs { OnOk result (book.new.end ≡ Dropped) }
+
+    ensures opening { book.new.opening ≡ book.old.opening }
+    ensures disk_fault { IsErrOf result Halt.DiskFault
+        → Rose (D.shows book.old.log.disk).faults (D.shows book.new.log.disk).faults }
+    ensures count { (D.shows book.old.log.disk).faults ≤ (D.shows book.new.log.disk).faults }
 {
     match next_move(&desk, seats.as_slice()) {
         NextMove::Client(place) => Ok((
-            move_client(alloc, gate, of, desk, place, None, seats, databases, done)?,
+            move_client(alloc, gate, of, desk, place, None, seats, databases, book)?,
             true,
         )),
         NextMove::Transaction(number) => {
@@ -166,7 +195,7 @@ fn advance<T: Tables, G: Gate>(
                     Some(number),
                     seats,
                     databases,
-                    done,
+                    book,
                 )?,
                 true,
             ))
@@ -176,23 +205,31 @@ fn advance<T: Tables, G: Gate>(
 }
 
 /// Moves are made until nothing is left.
-fn drive<T: Tables, G: Gate>(
+fn drive<T: Tables, D: Disk, G: Gate>(
     alloc: Global,
     gate: &G,
     of: &Snapshot<ScriptSession>,
     desk: Desk,
     seats: &mut Vec<Seat>,
     databases: &mut SessionDatabases<T>,
-    done: &mut Finished,
-) -> Result<Desk, NoMemory>
-    requires { IsDriving of.now.value finite.empty desk seats.old.items done.old databases.old }
+    book: &mut SessionBook<D, T>,
+) -> Result<Desk, Halt>
+    requires driving { IsDriving of.now.value desk seats.old.items (done_in book.old) databases.old }
+    requires runs { book.old.end ≡ Dropped }
     ensures driving { IfOk result (λ last.
-        IsDriving of.now.value finite.empty last seats.new.items done.new databases.new) }
-    ensures end { IfOk result (λ last. IsAtEnd (session_seen last seats.new.items done.new databases.new)) }
+        IsDriving of.now.value last seats.new.items (done_in book.new) databases.new) }
+    ensures end { IfOk result (λ last.
+        IsAtEnd (session_seen last seats.new.items (done_in book.new) databases.new)) }
+    ensures runs { OnOk result (book.new.end ≡ Dropped) }
+
+    ensures opening { book.new.opening ≡ book.old.opening }
+    ensures disk_fault { IsErrOf result Halt.DiskFault
+        → Rose (D.shows book.old.log.disk).faults (D.shows book.new.log.disk).faults }
+    ensures count { (D.shows book.old.log.disk).faults ≤ (D.shows book.new.log.disk).faults }
 {
     let mut desk = desk;
     'moves: loop {
-        let (last, goes) = advance(alloc, gate, of, desk, seats, databases, done)?;
+        let (last, goes) = advance(alloc, gate, of, desk, seats, databases, book)?;
         if !goes {
             return Ok(last);
         }
@@ -200,40 +237,110 @@ fn drive<T: Tables, G: Gate>(
     }
 }
 
-/// Runs a session whole, on no databases: the least client that has a task or an event goes first, its oldest task before its oldest
-/// event; where none has, the least transaction that isn't finished is run to its end, with its client's tasks between its turns. What
-/// the session reports at its end is a legal report. The gate is told of each request before it runs. Only want of memory stops it,
-/// as which more than 2^32 - 1 clients count.
-pub fn run_session<T: Tables, G: Gate>(
+/// The session is driven to its end, and its last commits are written unless it drops them; what is reported of it, but for the numbers
+/// of its transactions.
+fn run_to_end<T: Tables, D: Disk, G: Gate>(
     alloc: Global,
     gate: &G,
     session: ScriptSession,
-    number: u32,
-) -> Result<Report, NoMemory>
-    ensures legal { IfOk result (λ report. (closing : Items)
-        × IsLegalReport session number finite.empty report closing) }
+    opening: SessionOpening<T>,
+    book: &mut SessionBook<D, T>,
+) -> Result<(Desk, Vec<Seat>, Opening), Halt>
+    requires fresh { BeginsOn opening.databases opening.schemas opening.lines (done_in book.old) }
+    requires runs { book.old.end ≡ Dropped }
+    ensures ends { IfOk result (λ r. (items : Items)
+        × IsDriving session r.0 r.1.items (done_in book.new) items
+        × IsAtEnd (session_seen r.0 r.1.items (done_in book.new) items)) }
+    ensures lines { IfOk result (λ r. r.2 ≡ map has_of (finite.entries book.new.opening)) }
+    ensures end { OnOk result (book.new.end ≡ own_log_end session.drop_end) }
+
+    ensures opening { book.new.opening ≡ book.old.opening }
+    ensures disk_fault { IsErrOf result Halt.DiskFault
+        → Rose (D.shows book.old.log.disk).faults (D.shows book.new.log.disk).faults }
+    ensures count { (D.shows book.old.log.disk).faults ≤ (D.shows book.new.log.disk).faults }
 {
     under_way_laws();
     fitting_laws();
     showing_laws();
     let of = Snapshot::of(&session);
     let drop_end = session.drop_end;
+    let SessionOpening {
+        databases,
+        schemas,
+        lines,
+    } = opening;
+    let mut databases = databases;
     let mut seats = seats_of(alloc, session.clients)?;
-    let desk = Desk::new(alloc, Schemas::new(alloc))?;
-    let mut databases: SessionDatabases<T> = SessionDatabases::new(alloc);
-    let mut done = Finished {
-        finish: Numbers::new(alloc),
-        commits: Numbers::new(alloc),
-    };
-    let desk = drive(
-        alloc,
-        gate,
-        &of,
-        desk,
-        &mut seats,
-        &mut databases,
-        &mut done,
-    )?;
-    let report = report_of(alloc, desk, seats, done, number, drop_end)?;
-    Ok(report)
+    let desk = Desk::new(alloc, schemas)?;
+    let desk = drive(alloc, gate, &of, desk, &mut seats, &mut databases, book)?;
+    if !drop_end {
+        book.flush()?;
+    }
+    Ok((desk, seats, lines))
+}
+
+/// The session begins on the databases, and is run to its end.
+fn open_and_run<T: Tables, D: Disk, G: Gate>(
+    alloc: Global,
+    gate: &G,
+    session: ScriptSession,
+    databases: Databases<T>,
+    book: &mut SessionBook<D, T>,
+) -> Result<(Desk, Vec<Seat>, Opening), Halt>
+    requires items { databases ≡ book.old.opening }
+    requires fresh { (book.old.finished ≡ []) × (book.old.commits ≡ []) }
+    requires within { is_within_limits databases ≡ true }
+    requires runs { book.old.end ≡ Dropped }
+    ensures ends { IfOk result (λ r. (items : Items)
+        × IsDriving session r.0 r.1.items (done_in book.new) items
+        × IsAtEnd (session_seen r.0 r.1.items (done_in book.new) items)) }
+    ensures lines { IfOk result (λ r. r.2 ≡ map has_of (finite.entries book.new.opening)) }
+    ensures end { OnOk result (book.new.end ≡ own_log_end session.drop_end) }
+
+    ensures opening { book.new.opening ≡ book.old.opening }
+    ensures disk_fault { IsErrOf result Halt.DiskFault
+        → Rose (D.shows book.old.log.disk).faults (D.shows book.new.log.disk).faults }
+    ensures count { (D.shows book.old.log.disk).faults ≤ (D.shows book.new.log.disk).faults }
+{
+    let opening = open_databases(alloc, databases)?;
+    run_to_end(alloc, gate, session, opening, book)
+}
+
+/// Runs a session whole, on the databases that a log gave: the least client that has a task or an event goes first, its oldest task
+/// before its oldest event; where none has, the least transaction that isn't finished is run to its end, with its client's tasks
+/// between its turns, and entered in a book over the log. The gate is told of each request before it runs. What the session reports at
+/// its end is a legal report, and each image of the disk is found as so many of its commits as may be kept. Where the disk fails as a
+/// commit is written, the session stops there. Only that and want of memory stop it, as which more than 2^32 - 1 clients count.
+pub fn run_session<T: Tables, D: Disk, G: Gate>(
+    alloc: Global,
+    gate: &G,
+    session: ScriptSession,
+    number: u32,
+    opened: Opened<D, T>,
+) -> (Result<Report, Halt>, D)
+    requires gives { HoldsItems D.shows opened.log opened.items }
+    requires faultless { failed_at opened.log ≡ None }
+    requires within { is_within_limits opened.items ≡ true }
+    ensures reports { IfOk result.0 (λ report. ReportsOn session number opened.items report (D.shows result.1)) }
+    ensures stops { OnErr result.0 (StopsOn opened.items (D.shows result.1)) }
+    ensures disk_fault { IsErrOf result.0 Halt.DiskFault
+        → Rose (D.shows (disk_of opened.log)).faults (D.shows result.1).faults }
+    ensures count { (D.shows (disk_of opened.log)).faults ≤ (D.shows result.1).faults }
+{
+    under_way_laws();
+    let drop_end = session.drop_end;
+    let (book, databases) = SessionBook::new(alloc, opened);
+    let mut book = book;
+    let ran = open_and_run(alloc, gate, session, databases, &mut book);
+    let (disk, finish, commits) = book.into_parts();
+    match ran {
+        Ok((desk, seats, lines)) => {
+            let told = report_of(alloc, desk, seats, lines, finish, commits, number, drop_end);
+            match told {
+                Ok(report) => (Ok(report), disk),
+                Err(_) => (Err(Halt::NoMemory), disk),
+            }
+        }
+        Err(halt) => (Err(halt), disk),
+    }
 }

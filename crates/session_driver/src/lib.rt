@@ -1,19 +1,21 @@
 // One driver of a session, without threads: it runs the clients' tasks and events, and the transactions one by one in the order of
 // their numbers.
 //
-// The layer above uses `run_session`: it runs a session whole on no databases, and what it reports is a legal report.
+// The layer above uses `run_session`: it runs a session whole on the databases that a log gave, enters each transaction in a book over that
+// log, and what it reports is a legal report.
 #![tactic(auto)]
 
 mod cancelling;
 mod choosing;
 mod driver;
-mod finished;
+mod entering;
 mod reporting;
 mod running;
 mod seats;
 mod serving;
 
 pub use driver::run_session;
+pub use entering::Halt;
 
 #[cfg(test)]
 mod tests;

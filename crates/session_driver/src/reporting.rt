@@ -7,10 +7,9 @@ ghost use Rattle.session_states.specs.Sessions.{report_now};
 ghost use Rattle.session_driver.specs.Reporting.{lines_seen, report_told};
 ghost use Rattle.session_driver.specs.Seats.{session_seen};
 
-use crate::finished::Finished;
 use crate::seats::Seat;
 use client_machine::GREATEST_POST_COUNT;
-use clone_values::Text;
+use clone_values::{Numbers, Text};
 use idb_base::NoMemory;
 use idb_desk::Desk;
 use idb_keys::ErrorName;
@@ -75,27 +74,30 @@ fn own_end(drop_end: bool) -> ReportEnd
     }
 }
 
-/// What the session reports at its end, on no databases.
+/// What the session reports at its end.
 pub(crate) fn report_of(
     alloc: Global,
     desk: Desk,
     seats: Vec<Seat>,
-    done: Finished,
+    opening: Opening,
+    finish: Numbers,
+    commits: Numbers,
     number: u32,
     drop_end: bool,
 ) -> Result<Report, NoMemory>
-    ensures { IfOk result (λ report. report ≡ report_told desk seats.items done number drop_end) }
+    ensures { IfOk result (λ report.
+        report ≡ report_told desk seats.items opening finish commits number drop_end) }
 {
     let clients = client_lines_of(alloc, seats)?;
     let order = desk.tokens()?;
     let pending = desk.pending()?;
     Ok(Report {
         session: number,
-        opening: Opening::new(alloc),
+        opening,
         clients,
         order,
-        finish: done.finish,
-        commits: done.commits,
+        finish,
+        commits,
         pending,
         end: own_end(drop_end),
     })

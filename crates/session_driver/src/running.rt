@@ -1,37 +1,46 @@
 // A transaction is run whole.
-ghost use Rattle.std.specs.Prelude.{◌≡◌, ◌+◌, ◌<◌, ◌&&◌, List, true, false, [], ◌∷◌, drop, length, Some, None, IfOk, OnOk, IfSome, IfNone};
+ghost use Rattle.std.specs.Prelude.{◌≡◌, ◌+◌, ◌<◌, ◌&&◌, ◌≤◌, List, true, false, [], ◌∷◌, drop, length, Some, None, IfOk, OnOk, IfSome, IfNone, IsErrOf};
+ghost use Rattle.edge_traits.specs.Faults.{Rose};
 ghost use Rattle.idb_desk.specs.Steps.{desk_run};
 ghost use Rattle.idb_desk.specs.Refusals.{is_allowed};
 ghost use Rattle.idb_desk.specs.declared.steps.DeskStep.TheVariants as step;
 ghost use Rattle.item_changes.specs.Items.{Items};
-ghost use Rattle.serial_order.specs.FinishEntries.{Scripted, Deletion, did_commit};
+ghost use Rattle.serial_order.specs.FinishEntries.{Scripted, Deletion};
+ghost use Rattle.log_history.specs.Kept.{Dropped};
 ghost use Rattle.script_runs.specs.declared.notes.Note.{Note};
-ghost use Rattle.session_driver.specs.declared.finished.Finished.{Finished};
 ghost use Rattle.client_parts.specs.Holding.{body_seen};
 ghost use Rattle.session_facts.specs.Showing.{IsSoundKept};
 ghost use Rattle.session_driver.specs.Choosing.{IsDue};
 ghost use Rattle.session_driver.specs.Measures.{beyond_memory};
-ghost use Rattle.session_driver.specs.Scenes.{scene_of, LeadsTo, StandsOn};
-ghost use Rattle.session_driver.specs.Running.{begun_run, TurnLeads, EndLeads, RunsOnInto, HasSureEnd, FinishedWith, HoldsTx, HoldsBegun, WasAborted};
+ghost use Rattle.session_driver.specs.Scenes.{DoneNow, done_in, scene_of, LeadsTo, StandsOn};
+ghost use Rattle.tx_book.specs.Entries.{CanBeLogged};
+ghost use Rattle.session_books.specs.Entering.{is_commit};
+ghost use Rattle.session_driver.specs.Running.{begun_run, TurnLeads, EndLeads, FinishLeads, RunsOnInto, HasSureEnd, FinishedWith, HoldsTx, HoldsBegun, WasAborted};
 
 use crate::cancelling::cancel_tx;
-use crate::finished::{Finished, note_finish};
+use crate::entering::{Halt, enter, timed};
 use crate::seats::is_run;
 use crate::serving::run_tasks;
 use client_parts::{BegunBody, BegunTx};
 use client_tasks::Office;
 use clone_values::Text;
+use disk_trait::Disk;
 use edge_traits::Gate;
 use idb_base::NoMemory;
-use idb_calls::Outcome;
+use idb_calls::{Outcome, TxTrace};
 use idb_schema::Schema;
 use index_tables::Tables;
 use list_machine::Step;
+use loggable_changes::loggable_change_laws;
+use script_handlers::ScriptHandler;
 use script_runs::Notes;
+use serial_order::{applying_laws, serial_laws};
+use session_books::SessionBook;
 use session_databases::SessionDatabases;
 use session_facts::{fitting_laws, showing_laws, telling_laws};
+use session_limits::{limit_laws, resting_laws, version_laws};
 use session_states::step_laws;
-use session_txs::{SessionTx, begin, delete_database};
+use session_txs::{SessionTx, TxEnd, begin, delete_database, deletion_trace};
 use std::alloc::Global;
 
 /// The handlers of a turn wrote the notes from this place on.
@@ -136,44 +145,15 @@ fn finish_tx(
     step_laws();
     fitting_laws();
     showing_laws();
+    limit_laws();
+    resting_laws();
+    applying_laws::<ScriptHandler>();
+    serial_laws::<ScriptHandler>();
     let finished = office.finish(alloc, number, outcome, kept, notes)?;
     if !finished {
         unreachable!();
     }
     is_run(office.desk());
-    Ok(())
-}
-
-/// A transaction that was started is run on the databases to its end, and finishes.
-fn run_scripted<T: Tables, G: Gate>(
-    alloc: Global,
-    gate: &G,
-    office: &mut Office,
-    number: u64,
-    begun: BegunTx,
-    notes: &mut Notes,
-    databases: &mut SessionDatabases<T>,
-    done: &mut Finished,
-) -> Result<(), NoMemory>
-    requires on { StandsOn (Some (begun_run number (Scripted begun.body)))
-        (scene_of office.old notes.old done.old databases.old) }
-    requires holds { HoldsBegun office.old number (Scripted begun.body) }
-    ensures leads { OnOk result (LeadsTo (Some (begun_run number (Scripted begun.body))) None
-        (scene_of office.old notes.old done.old databases.old)
-        (scene_of office.new notes.new done.new databases.new)) }
-    ensures finishes { OnOk result (FinishedWith done.old number done.new) }
-{
-    showing_laws();
-    telling_laws();
-    let mut tx = begin(alloc, databases, number, begun)?;
-    run_turns(alloc, gate, office, &mut tx, number, notes)?;
-    let writes = tx.may_write();
-    let end = tx.finish(databases)?;
-    let outcome = end.outcome;
-    is_sound(&end.kept);
-    finish_tx(alloc, office, number, outcome, end.kept, notes)?;
-    let commits_too = counts_as_commit(outcome, writes);
-    note_finish(done, number, commits_too)?;
     Ok(())
 }
 
@@ -186,17 +166,39 @@ fn is_sound(kept: &Option<Schema>)
     }
 }
 
-/// Whether a transaction with this outcome is among the commits.
-fn counts_as_commit(outcome: Outcome, writes: bool) -> bool
-    ensures { result ≡ (did_commit outcome && writes) }
+/// A transaction that was started is run on the databases to its end, and leaves the desk; what is told of it.
+fn run_scripted<T: Tables, G: Gate>(
+    alloc: Global,
+    gate: &G,
+    office: &mut Office,
+    number: u64,
+    begun: BegunTx,
+    notes: &mut Notes,
+    databases: &mut SessionDatabases<T>,
+) -> Result<TxTrace, NoMemory>
+    requires on { (done : DoneNow) × StandsOn (Some (begun_run number (Scripted begun.body)))
+        (scene_of office.old notes.old done databases.old) }
+    requires holds { HoldsBegun office.old number (Scripted begun.body) }
+    ensures leads { IfOk result (λ trace. FinishLeads (Some (begun_run number (Scripted begun.body))) number trace
+        office.old notes.old databases.old office.new notes.new databases.new) }
+    ensures loggable { IfOk result (λ trace. is_commit trace ≡ true → CanBeLogged trace) }
 {
-    match outcome {
-        Outcome::Committed => writes,
-        Outcome::Aborted { .. } => false,
-    }
+    showing_laws();
+    telling_laws();
+    resting_laws();
+    version_laws();
+    limit_laws();
+    let mut tx = begin(alloc, databases, number, begun)?;
+    run_turns(alloc, gate, office, &mut tx, number, notes)?;
+    let end = tx.finish(alloc, databases)?;
+    let TxEnd { trace, kept } = end;
+    is_sound(&kept);
+    databases.stores_are_sound();
+    finish_tx(alloc, office, number, trace.outcome, kept, notes)?;
+    Ok(timed(office.desk(), trace))
 }
 
-/// A deletion that was started deletes its database, and finishes.
+/// A deletion that was started deletes its database, and leaves the desk; what is told of it.
 fn run_deletion<T: Tables>(
     alloc: Global,
     office: &mut Office,
@@ -204,27 +206,29 @@ fn run_deletion<T: Tables>(
     name: Text,
     notes: &mut Notes,
     databases: &mut SessionDatabases<T>,
-    done: &mut Finished,
-) -> Result<(), NoMemory>
-    requires on { StandsOn (Some (begun_run number (Deletion name)))
-        (scene_of office.old notes.old done.old databases.old) }
+) -> Result<TxTrace, NoMemory>
+    requires on { (done : DoneNow) × StandsOn (Some (begun_run number (Deletion name)))
+        (scene_of office.old notes.old done databases.old) }
     requires holds { HoldsBegun office.old number (Deletion name) }
-    ensures leads { OnOk result (LeadsTo (Some (begun_run number (Deletion name))) None
-        (scene_of office.old notes.old done.old databases.old)
-        (scene_of office.new notes.new done.new databases.new)) }
-    ensures finishes { OnOk result (FinishedWith done.old number done.new) }
+    ensures leads { IfOk result (λ trace. FinishLeads (Some (begun_run number (Deletion name))) number trace
+        office.old notes.old databases.old office.new notes.new databases.new) }
+    ensures loggable { IfOk result (λ trace. is_commit trace ≡ true → CanBeLogged trace) }
 {
+    showing_laws();
     telling_laws();
+    resting_laws();
+    loggable_change_laws();
     delete_database(alloc, databases, &name)?;
+    databases.stores_are_sound();
     finish_tx(alloc, office, number, Outcome::Committed, None, notes)?;
-    note_finish(done, number, true)?;
-    Ok(())
+    let trace = deletion_trace(alloc, number, name)?;
+    Ok(timed(office.desk(), trace))
 }
 
 /// The least transaction starts, unless its body aborted it.
 fn start_tx(office: &mut Office, number: u64) -> Option<BegunBody>
     requires { IsDue office.old.run office.old.client number }
-    ensures started { (notes : List Note) (done : Finished) (items : Items) → IfSome result (λ body.
+    ensures started { (notes : List Note) (done : DoneNow) (items : Items) → IfSome result (λ body.
         LeadsTo None (Some (begun_run number (body_seen body)))
         (scene_of office.old notes done items) (scene_of office.new notes done items)) }
     ensures holds { IfSome result (λ body. HoldsBegun office.new number (body_seen body)) }
@@ -240,35 +244,62 @@ fn start_tx(office: &mut Office, number: u64) -> Option<BegunBody>
     body
 }
 
-/// The least transaction that isn't finished is run whole; one that its body aborted finishes without starting.
-pub(crate) fn run_tx<T: Tables, G: Gate>(
+/// The least transaction that isn't finished is run whole; one that its body aborted finishes without starting. What is told of it.
+fn run_whole<T: Tables, G: Gate>(
     alloc: Global,
     gate: &G,
     office: &mut Office,
     number: u64,
     notes: &mut Notes,
     databases: &mut SessionDatabases<T>,
-    done: &mut Finished,
-) -> Result<(), NoMemory>
+) -> Result<TxTrace, NoMemory>
     requires due { IsDue office.old.run office.old.client number }
-    requires on { StandsOn None (scene_of office.old notes.old done.old databases.old) }
-    ensures leads { OnOk result (LeadsTo None None
-        (scene_of office.old notes.old done.old databases.old)
-        (scene_of office.new notes.new done.new databases.new)) }
-    ensures finishes { OnOk result (FinishedWith done.old number done.new) }
+    requires on { (done : DoneNow) × StandsOn None (scene_of office.old notes.old done databases.old) }
+    ensures leads { IfOk result (λ trace. FinishLeads None number trace
+        office.old notes.old databases.old office.new notes.new databases.new) }
+    ensures loggable { IfOk result (λ trace. is_commit trace ≡ true → CanBeLogged trace) }
 {
     match start_tx(office, number) {
         Some(BegunBody::Scripted(begun)) => {
-            run_scripted(alloc, gate, office, number, begun, notes, databases, done)?;
-            Ok(())
+            let trace = run_scripted(alloc, gate, office, number, begun, notes, databases)?;
+            Ok(trace)
         }
         Some(BegunBody::Deletion(name)) => {
-            run_deletion(alloc, office, number, name, notes, databases, done)?;
-            Ok(())
+            let trace = run_deletion(alloc, office, number, name, notes, databases)?;
+            Ok(trace)
         }
         None => {
-            cancel_tx(alloc, office, number, notes, done)?;
-            Ok(())
+            let trace = cancel_tx(alloc, office, number, notes)?;
+            Ok(trace)
         }
     }
+}
+
+/// The least transaction that isn't finished is run whole, and entered in the book.
+pub(crate) fn run_tx<T: Tables, D: Disk, G: Gate>(
+    alloc: Global,
+    gate: &G,
+    office: &mut Office,
+    number: u64,
+    notes: &mut Notes,
+    databases: &mut SessionDatabases<T>,
+    book: &mut SessionBook<D, T>,
+) -> Result<(), Halt>
+    requires due { IsDue office.old.run office.old.client number }
+    requires on { StandsOn None (scene_of office.old notes.old (done_in book.old) databases.old) }
+    requires runs { book.old.end ≡ Dropped }
+    ensures leads { OnOk result (LeadsTo None None
+        (scene_of office.old notes.old (done_in book.old) databases.old)
+        (scene_of office.new notes.new (done_in book.new) databases.new)) }
+    ensures finishes { OnOk result (FinishedWith (done_in book.old) number (done_in book.new)) }
+    ensures runs { OnOk result (book.new.end ≡ Dropped) }
+
+    ensures opening { book.new.opening ≡ book.old.opening }
+    ensures disk_fault { IsErrOf result Halt.DiskFault
+        → Rose (D.shows book.old.log.disk).faults (D.shows book.new.log.disk).faults }
+    ensures count { (D.shows book.old.log.disk).faults ≤ (D.shows book.new.log.disk).faults }
+{
+    let trace = run_whole(alloc, gate, office, number, notes, databases)?;
+    enter(book, &trace)?;
+    Ok(())
 }

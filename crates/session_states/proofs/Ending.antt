@@ -6,10 +6,13 @@ use Rattle.std.specs.List.{list_any, AllByRecursion}
 use Rattle.std.specs.List.Sorted.{IsPermutation}
 use Rattle.std.proofs.lemmas.List.{append-nil, append_assoc, map-append}
 use Rattle.std.proofs.lemmas.List.Sorted.{IsPermutation-map}
+use Rattle.std.proofs.lemmas.Simd.{map-map}
 use Rattle.name_queues.specs.Mails.{events_of}
 use Rattle.idb_desk.specs.declared.steps.DeskStep.{DeskStep}
 use Rattle.idb_desk.specs.Steps.{DeskRun, desk_run, IsDeskRun}
 use Rattle.item_changes.specs.Items.{Items}
+use Rattle.record_bytes.specs.declared.records.LogRecord.{LogRecord}
+use Rattle.log_history.specs.Batching.{Commit}
 use Rattle.report_lines.specs.declared.reports.ReportEnd.TheVariants as end
 use Rattle.serial_order.specs.FinishEntries.{FinishEntry, did_commit}
 use Rattle.serial_order.specs.SerialRuns.{IsSerial, items_after}
@@ -24,8 +27,8 @@ use Rattle.client_ties.specs.Unfinished.{AreDrawn}
 use Rattle.client_ties.proofs.Laws.{IsSound, none_unfinished}
 use Rattle.legal_sessions.specs.Histories.{AreClientRuns}
 use Rattle.legal_sessions.specs.SerialResults.{BegunTx, begun_in, begun_by, AreEntriesOf}
-use Rattle.legal_sessions.specs.Legal.{is_in_doubt, DoubtsFit, own_end, IsLegalReport}
-use Rattle.session_states.specs.Sessions.{SeatNow, SessionNow, IsAtEnd, report_now}
+use Rattle.legal_sessions.specs.Legal.{is_in_doubt, DoubtsFit, own_end, commits_of, record_of_entry, records_logged, commit_at, IsLegalReport}
+use Rattle.session_states.specs.Sessions.{SeatNow, SessionNow, commit_numbers, IsAtEnd, report_now}
 use Rattle.session_states.specs.Telling.{ToldTx, BegunAt, begun_at, begun_from, acts_where, acts_at, shown_begun, as_begun, RunningTx}
 use Rattle.session_states.specs.UnderWay.{AreSeats, AreFinishedAs, IsWhole, IsUnderWay}
 
@@ -149,7 +152,7 @@ none_waits (b ∷ bs) e = cc
 
 module _ (sound : (r : DeskRun) → IsDeskRun r → IsSound (desk_run r)) where
   pub legal_at_end : (session : ScriptSession) (number : ℕ) (opening : Items) (now : SessionNow) (running : Option RunningTx) → IsUnderWay session opening now running → IsAtEnd now
-      → IsLegalReport session number opening (report_now session number opening now) now.items
+      → IsLegalReport session number opening (report_now session number opening now) now.commits now.items
   legal_at_end session number opening now running u at_end =
       let none : u.waiting ≡ [] = none_waits u.waiting (sym u.begun.unfinished ∙ none_unfinished sound now.run u.desk at_end.no_transaction) in
       let all_done : u.done ++ u.waiting ≡ u.done = ap (λ ws. u.done ++ ws) none ∙ append-nil u.done in
@@ -178,9 +181,10 @@ module _ (sound : (r : DeskRun) → IsDeskRun r → IsSound (desk_run r)) where
           lines = lines_told 0 now.run u.waiting session.clients now.seats u.acts u.seats;
           order = refl;
           finish = u.finished.finish;
-          commits = u.finished.commits;
+          commits = ap commit_numbers u.finished.commits ∙ map-map (λ (c : Commit). c.logged.number) (commit_at now.run.order) (records_logged u.entries) ∙ map-map (λ (r : LogRecord). r.number) record_of_entry (commits_of u.entries);
           pending = refl;
           end = ap (λ b. if b then end.Fault else own_end session.drop_end) (sym u.calm);
         };
+        logged = u.finished.commits;
         left = u.finished.items ∙ ap (items_after opening) (sym placed);
       }

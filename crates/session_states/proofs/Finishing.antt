@@ -29,11 +29,12 @@ use Rattle.client_ties.specs.Unfinished.{least_of, Draws}
 use Rattle.client_ties.specs.Ties.{shown_tx}
 use Rattle.client_ties.proofs.Laws.{IsSound, Grows, grows_end, notes_txs, made_split, made_before}
 use Rattle.legal_sessions.specs.SerialResults.{number_of_entry}
-use Rattle.legal_sessions.specs.Legal.{is_in_doubt, may_write, commits_of}
+use Rattle.legal_sessions.specs.Legal.{is_in_doubt, may_write, commits_of, record_of_entry, records_logged, commit_at, commits_at}
 use Rattle.session_states.specs.Sessions.{SeatNow, SessionNow, with_seat, with_finished}
 use Rattle.session_states.specs.Telling.{told_by_entry, BegunAt, begun_at, txs_at, RunningTx, turns_so_far}
 use Rattle.session_states.specs.UnderWay.{HasBegun, IsFinishedAs, AreFinishedAs, IsWhole, IsUnderWay}
 use Rattle.session_states.specs.Moves.{Moves, entry_ran, entry_dropped}
+use Rattle.session_states.proofs.Lasting.{logged_still}
 use Rattle.session_states.proofs.Told.{made_calm, tame_silent, set_same}
 use Rattle.session_states.proofs.Placed.{SeatAt}
 use Rattle.session_states.proofs.Beginnings.{equal_self, txs_more, txs_still, first_apart}
@@ -63,8 +64,8 @@ serial_end : (items : Items) (es : List Entry) (e : Entry) → IsSerial ScriptRe
 serial_end items [] e serial runs = (runs, tt)
 serial_end items (f ∷ es) e serial runs = (serial.0, serial_end (applied_all items (changes_kept f)) es e serial.1 runs)
 
-commits_end : (es : List Entry) (e : Entry) → map number_of_entry (commits_of (es ++ e ∷ [])) ≡ map number_of_entry (commits_of es) ++ map number_of_entry (commits_of (e ∷ []))
-commits_end es e = ap (map number_of_entry) (filter-append (λ (f : Entry). did_commit f.outcome && may_write f.body) es (e ∷ [])) ∙ map-append number_of_entry (commits_of es) (commits_of (e ∷ []))
+commits_end : (es : List Entry) (e : Entry) → records_logged (es ++ e ∷ []) ≡ records_logged es ++ records_logged (e ∷ [])
+commits_end es e = ap (map record_of_entry) (filter-append (λ (f : Entry). did_commit f.outcome && may_write f.body) es (e ∷ [])) ∙ map-append record_of_entry (commits_of es) (commits_of (e ∷ []))
 
 set_twice : {X : Type 0} (xs : List X) (i : ℕ) (x y : X) → slice_set (slice_set xs i x) i y ≡ slice_set xs i y
 set_twice [] i x y = refl
@@ -156,7 +157,10 @@ module _ (session : ScriptSession) (opening : Items) (now : SessionNow) (running
         serial = serial_end opening u.entries e u.finished.serial (subst (λ items. RunsAlone ScriptReacts ScriptWrites items e) u.finished.items runs);
         items = ap (λ items. applied_all items (changes_kept e)) u.finished.items ∙ sym (items_end opening u.entries e);
         finish = ap (λ ns. ns ++ e.number ∷ []) u.finished.finish ∙ sym (map-append number_of_entry u.entries (e ∷ []));
-        commits = ap (λ ns. ns ++ map number_of_entry (commits_of (e ∷ []))) u.finished.commits ∙ sym (commits_end u.entries e);
+        commits = ap (λ cs. cs ++ commits_at r.order (records_logged (e ∷ [])))
+            (u.finished.commits ∙ sym (logged_still (place + 1) now.run r acts (made_there session opening now running place script before seat acts r u m) m.run u.acts running u.done u.waiting u.entries u.begun u.finished.each))
+            ∙ sym (map-append (commit_at r.order) (records_logged u.entries) (records_logged (e ∷ [])))
+            ∙ ap (commits_at r.order) (sym (commits_end u.entries e));
       };
     }
 

@@ -8,3 +8,4 @@ mod Turning
 mod Moving
 mod Finishing
 mod Ready
+mod Lasting

@@ -25,6 +25,7 @@ use Rattle.session_states.specs.Sessions.{SeatNow, SessionNow, with_seat}
 use Rattle.session_states.specs.Telling.{BegunAt, begun_at, txs_at, shown_begun, RunningTx}
 use Rattle.session_states.specs.UnderWay.{IsSeatOf, AreSeats, IsFirstWaiting, HasBegun, IsUnderWay}
 use Rattle.session_states.specs.Moves.{Moves}
+use Rattle.session_states.proofs.Lasting.{logged_still}
 use Rattle.session_states.proofs.Told.{made_order, made_calm, IsSilent, tame_silent}
 use Rattle.session_states.proofs.Placed.{SeatAt, seat_at, seats_changed}
 use Rattle.session_states.proofs.Beginnings.{some_same, equal_self, unequal, txs_more, txs_still, AreApart, first_apart}
@@ -116,7 +117,7 @@ module _ (session : ScriptSession) (opening : Items) (now : SessionNow) (running
       serial = u.finished.serial;
       items = u.finished.items;
       finish = u.finished.finish;
-      commits = u.finished.commits;
+      commits = u.finished.commits ∙ sym (logged_still (place + 1) now.run r acts made_there m.run u.acts running u.done u.waiting u.entries u.begun u.finished.each);
     };
   }
 

@@ -1,7 +1,8 @@
 -- What is held of a session while it runs.
 --     SeatNow               a client, and what it noted so far
---     SessionNow            the run of the desk, the clients, the numbers of the transactions that finished and of those that
---                           committed and may write, and the databases
+--     SessionNow            the run of the desk, the clients, the numbers of the transactions that finished, those that committed
+--                           and may write, as a log has them, and the databases
+--     commit_numbers        the numbers of these
 --     fresh_session         before any step
 --     with_seat             the desk and one client have moved
 --     with_finished         a transaction is finished
@@ -17,6 +18,7 @@ use Rattle.idb_desk.specs.Tokens.{token_of}
 use Rattle.idb_desk.specs.Waiting.{pending_of}
 use Rattle.item_changes.specs.Items.{Items}
 use Rattle.item_changes.specs.Effects.{applied_all}
+use Rattle.log_history.specs.Batching.{Commit}
 use Rattle.report_lines.specs.declared.reports.Report.{Report}
 use Rattle.serial_order.specs.FinishEntries.{FinishEntry, changes_kept}
 use Rattle.script_statements.specs.declared.script.Client.{Client}
@@ -26,8 +28,7 @@ use Rattle.script_handlers.specs.Handling.{Script}
 use Rattle.client_machine.specs.Acts.{written_from}
 use Rattle.client_machine.specs.ClientStates.{ClientState, fresh_client}
 use Rattle.client_ties.specs.Unfinished.{least_of}
-use Rattle.legal_sessions.specs.SerialResults.{number_of_entry}
-use Rattle.legal_sessions.specs.Legal.{has_of, commits_of, own_end}
+use Rattle.legal_sessions.specs.Legal.{has_of, records_logged, commits_at, own_end}
 
 pub record SeatNow : Type 0 where
   pub client : ClientState
@@ -37,7 +38,7 @@ pub record SessionNow : Type 0 where
   pub run : DeskRun
   pub seats : List SeatNow
   pub finish : List ℕ
-  pub commits : List ℕ
+  pub commits : List Commit
   pub items : Items
 
 -- ---- the beginning
@@ -63,9 +64,12 @@ with_seat place r seat now = record now { run = r; seats = slice_set now.seats p
 abbrev pub with_finished : FinishEntry Script Note → SessionNow → SessionNow
 with_finished e now = record now {
   finish = now.finish ++ e.number ∷ [];
-  commits = now.commits ++ map number_of_entry (commits_of (e ∷ []));
+  commits = now.commits ++ commits_at now.run.order (records_logged (e ∷ []));
   items = applied_all now.items (changes_kept e);
 }
+
+abbrev pub commit_numbers : List Commit → List ℕ
+commit_numbers commits = map (λ (c : Commit). c.logged.number) commits
 
 -- ---- the end
 pub record IsAtEnd (now : SessionNow) : Type 0 where
@@ -80,7 +84,7 @@ report_now session number opening now = record {
   clients = map (λ (s : SeatNow). written_from 0 s.notes) now.seats;
   order = map token_of now.run.order;
   finish = now.finish;
-  commits = now.commits;
+  commits = commit_numbers now.commits;
   pending = pending_of (desk_run now.run);
   end = own_end session.drop_end;
 }

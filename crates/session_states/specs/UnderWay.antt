@@ -26,7 +26,7 @@ use Rattle.client_machine.specs.ClientSteps.{ClientRuns}
 use Rattle.client_ties.specs.Unfinished.{unfinished_of, AreDrawn}
 use Rattle.legal_sessions.specs.Histories.{ShowsItems}
 use Rattle.legal_sessions.specs.SerialResults.{number_of_entry}
-use Rattle.legal_sessions.specs.Legal.{is_fault, is_in_doubt, commits_of}
+use Rattle.legal_sessions.specs.Legal.{is_fault, is_in_doubt, records_logged, commits_at}
 use Rattle.session_states.specs.Sessions.{SeatNow, SessionNow}
 use Rattle.session_states.specs.Telling.{told_of, nothing_told, told_by_entry, BegunAt, begun_from, acts_at, txs_at, shown_begun, as_begun, RunningTx, is_running, body_so_far, told_so_far}
 
@@ -93,7 +93,7 @@ pub record HasFinished (opening : Items) (now : SessionNow) (acts : List (List A
   pub serial : IsSerial ScriptReacts ScriptWrites opening entries
   pub items : now.items ≡ items_after opening entries
   pub finish : now.finish ≡ map number_of_entry entries
-  pub commits : now.commits ≡ map number_of_entry (commits_of entries)
+  pub commits : now.commits ≡ commits_at now.run.order (records_logged entries)
 
 -- ---- the session
 pub record IsUnderWay (session : ScriptSession) (opening : Items) (now : SessionNow) (running : Option RunningTx) : Type 0 where

@@ -21,7 +21,7 @@ use idb_desk::desk_laws;
 
 /// The laws of a session under way. Before any step it is under way, over schemas that are those of the databases. Each of its
 /// clients is tied to the desk; the least unfinished transaction is one that its client has, and may start. Where nobody has
-/// anything left to do, what was noted, finished and kept is a legal report, and the databases are those at its end.
+/// anything left to do, what was noted, finished and kept is a legal report, with what was logged, and the databases are those at its end.
 pub fn under_way_laws()
     ensures fresh { (session : ScriptSession) (schemas : List SchemaData) (opening : Items)
         → ShowsItems schemas opening
@@ -37,7 +37,7 @@ pub fn under_way_laws()
     ensures legal { (session : ScriptSession) (number : ℕ) (opening : Items) (now : SessionNow)
         (running : Option RunningTx)
         → IsUnderWay session opening now running → IsAtEnd now
-        → IsLegalReport session number opening (report_now session number opening now) now.items }
+        → IsLegalReport session number opening (report_now session number opening now) now.commits now.items }
 {
     desk_laws();
 }

@@ -3,12 +3,16 @@
 --     lasts_with            where it has no version it has no stores
 --     made_by_run, version_by_run, within_by_run        the laws of a run
 --     commits_so, aborts_with       it finishes as it committed, or as it aborted
+--     logged_finish         what it changed can be logged
 --     finish_committed, finish_aborted      so by the end that is kept;  commit_lasts, abort_lasts: what goes back lasts
-use Rattle.std.proofs.Common.{◌≡◌, ℕ, List, [], ◌∷◌, ◌++◌, Option, Some, None, refl, sym, ◌∙◌, ap, subst}
+use Rattle.std.proofs.Common.{◌≡◌, ◌≤◌, ℕ, length, List, [], ◌∷◌, ◌++◌, Option, Some, None, refl, sym, ◌∙◌, ap, subst}
 use Rattle.std.specs.Prelude.{Bool, true, false, if◌then◌else◌}
 use Rattle.std.specs.FinMap as finite
 use Rattle.std.proofs.lemmas.Grind.{flat_map-append}
 use Rattle.std.proofs.lemmas.List.{append-nil}
+use Rattle.idb_base.specs.Lists.{IsWithinLimit}
+use Rattle.idb_calls.specs.declared.traces.TheConstants.{GREATEST_DELTA_COUNT}
+use Rattle.loggable_changes.specs.Logging.{AreLoggable}
 use Rattle.idb_keys.specs.declared.names.ErrorName.{ErrorName}
 use Rattle.idb_keys.specs.declared.names.Mode.{Mode}
 use Rattle.idb_keys.specs.declared.names.Mode.TheVariants as mode
@@ -34,7 +38,7 @@ use Rattle.script_handlers.specs.declared.handlers.ScriptHandler.{ScriptHandler}
 use Rattle.script_handlers.specs.Handling.{Script, ScriptReacts, ScriptWrites}
 use Rattle.session_databases.specs.Parts.{scope_of, without_part, with_part}
 use Rattle.session_txs.specs.Running.{SessionTxState, scope_of_scripted, LeavesItsPart, RanAndLeft}
-use Rattle.session_txs.specs.Keeping.{version_there, version_after, begun_state, state_now, IsRunning}
+use Rattle.session_txs.specs.Keeping.{version_there, version_after, begun_state, state_now, CanLog, IsRunning}
 use Rattle.session_txs.proofs.Openings.{mode_of_body, left_mode}
 use Rattle.session_txs.proofs.Versions.{goes_version}
 
@@ -134,8 +138,8 @@ module _ (body : ScriptedBody Script) (name : Name) (before after : Option ℕ) 
           ∙ ap (λ o. with_part its o (made_all state.changes (part_of its items))) taken
           ∙ again its items state.changes (within body items turns state.changes kept run)
 
-      pub commits_so : RanAndLeft (record { number = number; body = body; part = state.before; turns = turns; end = Some Committed }) Committed kept old new
-      commits_so = record { changes = state.changes; runs = run_of kept keeps; leaves = leaves_changed }
+      pub commits_so : RanAndLeft (record { number = number; body = body; part = state.before; turns = turns; end = Some Committed }) Committed kept state.changes old new
+      commits_so = record { runs = run_of kept keeps; leaves = leaves_changed }
 
   module _ (error : Option ErrorName) (is : IsRunning body name before after state turns stuck (Some (Aborted error false))) (again : IsPutBack) (old new : Items) (stores : Stores) (held : stores ≡ stores_in state.database)
       (given : new ≡ with_part its old (database_at before stores)) where
@@ -149,8 +153,8 @@ module _ (body : ScriptedBody Script) (name : Name) (before after : Option ℕ) 
         ∙ ap (λ o. with_part its o (part_of its items)) taken
         ∙ again its items
 
-    pub aborts_with : RanAndLeft (record { number = number; body = body; part = state.before; turns = turns; end = Some (Aborted error false) }) (Aborted error false) None old new
-    aborts_with = record { changes = []; runs = record { placed = is.placed; runs = (refl, is.came.0) }; leaves = leaves_none }
+    pub aborts_with : RanAndLeft (record { number = number; body = body; part = state.before; turns = turns; end = Some (Aborted error false) }) (Aborted error false) None [] old new
+    aborts_with = record { runs = record { placed = is.placed; runs = (refl, is.came.0) }; leaves = leaves_none }
 
 -- ---- by the end that is kept
 module _ (body : ScriptedBody Script) (name : Name) (before after : Option ℕ) (state : State ScriptHandler) (turns : List (List Note)) (stuck : Bool) (end : Option Outcome) (is : IsRunning body name before after state turns stuck end) (number : ℕ) where
@@ -163,17 +167,18 @@ module _ (body : ScriptedBody Script) (name : Name) (before after : Option ℕ) 
   pub commit_lasts : end ≡ Some Committed → (stores : Stores) → stores ≡ stores_in state.database → after ≡ None → stores ≡ finite.empty
   commit_lasts e stores held = lasts_with state.database after stores (committed_version body name before after state turns stuck number (ended_as (Some Committed) e)) held
 
-  pub finish_committed : end ≡ Some Committed → IsChangedAlike → RunMakes → RunIsWithin → (tx : SessionTxState) → seen ≡ tx → (schema : SchemaData) → schema ≡ state.schema → (kept : Option SchemaData) → kept ≡ schema_kept body.mode schema
+  pub finish_committed : end ≡ Some Committed → IsChangedAlike → RunMakes → RunIsWithin → (tx : SessionTxState) → seen ≡ tx → (schema : SchemaData) → schema ≡ state.schema → (kept : Option SchemaData) → kept ≡ schema_kept body.mode schema → (changes : List DeltaTree) → changes ≡ state.changes
       → (old new : Items) (stores : Stores) → stores ≡ stores_in state.database → (database : Name) → database ≡ name → new ≡ with_part (scope_of body.mode database body.names) old (database_at after stores)
-      → RanAndLeft tx Committed kept old new
-  finish_committed e again makes within tx view schema left kept keeps old new stores held database named given =
-      subst (λ t. RanAndLeft t Committed kept old new) view
-      (subst (λ o. RanAndLeft (record { number = number; body = body; part = state.before; turns = turns; end = o }) Committed kept old new) (sym e)
+      → RanAndLeft tx Committed kept changes old new
+  finish_committed e again makes within tx view schema left kept keeps changes noted old new stores held database named given =
+      subst (λ t. RanAndLeft t Committed kept changes old new) view
+      (subst (λ o. RanAndLeft (record { number = number; body = body; part = state.before; turns = turns; end = o }) Committed kept changes old new) (sym e)
+      (subst (λ ds. RanAndLeft (record { number = number; body = body; part = state.before; turns = turns; end = Some Committed }) Committed kept ds old new) (sym noted)
       (commits_so body name before after state turns stuck number (ended_as (Some Committed) e) again makes within kept (keeps ∙ ap (schema_kept body.mode) left) old new stores held
-      (given ∙ ap (λ n. with_part (scope_of body.mode n body.names) old (database_at after stores)) (named ∙ is.name_is))))
+      (given ∙ ap (λ n. with_part (scope_of body.mode n body.names) old (database_at after stores)) (named ∙ is.name_is)))))
 
   aborted_so : (error : Option ErrorName) (doubt : Bool) → IsRunning body name before after state turns stuck (Some (Aborted error doubt)) → IsPutBack → (old new : Items) (stores : Stores) → stores ≡ stores_in state.database
-      → new ≡ with_part (scope_of_scripted body) old (database_at before stores) → RanAndLeft (record { number = number; body = body; part = state.before; turns = turns; end = Some (Aborted error doubt) }) (Aborted error doubt) None old new
+      → new ≡ with_part (scope_of_scripted body) old (database_at before stores) → RanAndLeft (record { number = number; body = body; part = state.before; turns = turns; end = Some (Aborted error doubt) }) (Aborted error doubt) None [] old new
   aborted_so error true here again old new stores held given = absurd here.came
   aborted_so error false here again old new stores held given = aborts_with body name before after state turns stuck number error here again old new stores held given
 
@@ -184,11 +189,18 @@ module _ (body : ScriptedBody Script) (name : Name) (before after : Option ℕ) 
   pub abort_lasts : (error : Option ErrorName) (doubt : Bool) → end ≡ Some (Aborted error doubt) → (stores : Stores) → stores ≡ stores_in state.database → before ≡ None → stores ≡ finite.empty
   abort_lasts error doubt e stores held = lasts_with state.before before stores is.before_is (held ∙ stores_before error doubt (ended_as (Some (Aborted error doubt)) e))
 
-  pub finish_aborted : (error : Option ErrorName) (doubt : Bool) → end ≡ Some (Aborted error doubt) → IsPutBack → (tx : SessionTxState) → seen ≡ tx
+  pub finish_aborted : (error : Option ErrorName) (doubt : Bool) → end ≡ Some (Aborted error doubt) → IsPutBack → (tx : SessionTxState) → seen ≡ tx → (changes : List DeltaTree) → changes ≡ []
       → (old new : Items) (stores : Stores) → stores ≡ stores_in state.database → (database : Name) → database ≡ name → new ≡ with_part (scope_of body.mode database body.names) old (database_at before stores)
-      → RanAndLeft tx (Aborted error doubt) None old new
-  finish_aborted error doubt e again tx view old new stores held database named given =
-      subst (λ t. RanAndLeft t (Aborted error doubt) None old new) view
-      (subst (λ o. RanAndLeft (record { number = number; body = body; part = state.before; turns = turns; end = o }) (Aborted error doubt) None old new) (sym e)
+      → RanAndLeft tx (Aborted error doubt) None changes old new
+  finish_aborted error doubt e again tx view changes noted old new stores held database named given =
+      subst (λ ds. RanAndLeft tx (Aborted error doubt) None ds old new) (sym noted)
+      (subst (λ t. RanAndLeft t (Aborted error doubt) None [] old new) view
+      (subst (λ o. RanAndLeft (record { number = number; body = body; part = state.before; turns = turns; end = o }) (Aborted error doubt) None [] old new) (sym e)
       (aborted_so error doubt (ended_as (Some (Aborted error doubt)) e) again old new stores held
-      (given ∙ ap (λ n. with_part (scope_of body.mode n body.names) old (database_at before stores)) (named ∙ is.name_is))))
+      (given ∙ ap (λ n. with_part (scope_of body.mode n body.names) old (database_at before stores)) (named ∙ is.name_is)))))
+
+  -- what it changed can be logged
+  pub logged_finish : end ≡ Some Committed → ((changes : List DeltaTree) → length changes ≤ GREATEST_DELTA_COUNT → IsWithinLimit changes) → (changes : List DeltaTree) → changes ≡ state.changes → AreLoggable changes × IsWithinLimit changes
+  logged_finish e count changes noted =
+      let can : CanLog state = (ended_as (Some Committed) e).logs in
+      (subst AreLoggable (sym noted) can.loggable, subst (λ (ds : List DeltaTree). IsWithinLimit ds) (sym noted) (count state.changes can.within.changes))

@@ -4,8 +4,9 @@
 --     begun_as              its state, of a front and all else
 --     ready_as              it can run
 --     running_as            and what it keeps
---     fits_so               the part that was taken out was made by its schema
-use Rattle.std.proofs.Common.{◌≡◌, ℕ, List, [], Option, Some, None, refl, sym, ◌∙◌, ap, subst}
+--     logs_begun            what it changes can be logged
+--     fits_so, logs_so      the part that was taken out was made by its schema, and so it is of that body
+use Rattle.std.proofs.Common.{◌≡◌, ◌≤◌, ℕ, length, List, [], Option, Some, None, refl, sym, ◌∙◌, ap, subst}
 use Rattle.std.specs.Prelude.{Bool, true, false, not, ◌&&◌, if◌then◌else◌}
 use Rattle.idb_keys.specs.declared.names.Mode.{Mode}
 use Rattle.idb_keys.specs.declared.names.Mode.TheVariants as mode
@@ -19,13 +20,17 @@ use Rattle.request_lists.specs.Placing.{Becomes, aborted_by, after_rest, after_t
 use Rattle.request_lists.proofs.Laws.{becomes_plain}
 use Rattle.list_machine.specs.States.{State, fresh_state, opening_changes}
 use Rattle.list_machine.specs.Seeing.{state_map}
+use Rattle.list_machine.specs.declared.limits.TheConstants.{GREATEST_STORE_COUNT}
+use Rattle.machine_laws.specs.Limiting.{WithinLimits}
+use Rattle.record_bytes.specs.Loggable.{is_logged_version}
+use Rattle.loggable_changes.specs.Logging.{AreLoggable}
 use Rattle.machine_laws.proofs.Laws.{scope_made}
 use Rattle.live_stores.specs.Live.{database_at, live_from}
 use Rattle.tx_courses.specs.Courses.{CourseData, state_with, course_opened}
 use Rattle.live_tx.specs.Live.{IsReadyState}
 use Rattle.serial_order.specs.SerialRuns.{GoesBy, Fresh}
 use Rattle.script_handlers.specs.declared.handlers.ScriptHandler.{ScriptHandler}
-use Rattle.script_handlers.specs.Handling.{ScriptReacts, ScriptWrites}
+use Rattle.script_handlers.specs.Handling.{Script, ScriptReacts, ScriptWrites}
 use Rattle.script_handlers.specs.Seeing.{script_seen}
 use Rattle.client_parts.specs.Begun.{BegunState, scripted_body}
 use Rattle.client_parts.specs.declared.begun.BegunParts.{BegunParts}
@@ -35,9 +40,9 @@ use Rattle.item_changes.specs.Scopes.{part_of}
 use Rattle.serial_order.specs.NumberOrder.{FitsWhole}
 use Rattle.script_runs.specs.declared.notes.Note.{Note}
 use Rattle.session_databases.specs.Parts.{scope_of}
-use Rattle.session_txs.specs.Running.{scope_of_scripted}
+use Rattle.session_txs.specs.Running.{scope_of_scripted, IsLoggableBody}
 use Rattle.idb_databases.specs.Stores.{Stores}
-use Rattle.session_txs.specs.Keeping.{version_there, version_after, begun_state, GoesSo, IsRunning}
+use Rattle.session_txs.specs.Keeping.{version_there, version_after, begun_state, GoesSo, CanLog, IsRunning}
 
 -- ---- modes
 mode_back : Access → Mode
@@ -110,27 +115,44 @@ module _ (m : Mode) (schema : SchemaData) (names : List Name) (front : Front Scr
   abbrev part : Option Database
   part = database_at version stores
 
-  fresh : (name : Name) (after : Option ℕ) → name ≡ schema.name → after ≡ version_after m schema.version version → IsRunning (scripted_body m schema names front threw) name version after (fresh_state (left_of threw front) schema part) [] false None
-  fresh name after named left = record {
+  fresh : CanLog (fresh_state (left_of threw front) schema part) → (name : Name) (after : Option ℕ) → name ≡ schema.name → after ≡ version_after m schema.version version → IsRunning (scripted_body m schema names front threw) name version after (fresh_state (left_of threw front) schema part) [] false None
+  fresh can name after named left = record {
     placed = becomes_plain script_seen (new_front m schema names) front b;
     fits = made;
     name_is = named;
     before_is = version_at version stores;
     after_is = left ∙ ap (version_after m schema.version) (version_at version stores);
     came = λ _. goes_begun m schema names front part threw (fresh_state (left_of threw front) schema part) refl;
+    logs = λ _. can;
   }
 
-  pub running_as : (name : Name) (after : Option ℕ) → name ≡ schema.name → after ≡ version_after m schema.version version → (state : State ScriptHandler) → state ≡ fresh_state (left_of threw front) schema part
+  pub running_as : CanLog (fresh_state (left_of threw front) schema part) → (name : Name) (after : Option ℕ) → name ≡ schema.name → after ≡ version_after m schema.version version → (state : State ScriptHandler) → state ≡ fresh_state (left_of threw front) schema part
       → IsRunning (scripted_body m schema names front threw) name version after state [] false None
-  running_as name after named left state is = subst (λ s. IsRunning (scripted_body m schema names front threw) name version after s [] false None) (sym is) (fresh name after named left)
+  running_as can name after named left state is = subst (λ s. IsRunning (scripted_body m schema names front threw) name version after s [] false None) (sym is) (fresh can name after named left)
 
   -- by what is kept of its parts
-  pub running_seen : (schema_seen : SchemaData) (front_seen : Front ScriptHandler) → schema_seen ≡ schema → front_seen ≡ front → (name : Name) (after : Option ℕ) → name ≡ schema.name → after ≡ version_after m schema.version version
+  pub running_seen : CanLog (fresh_state (left_of threw front) schema part) → (schema_seen : SchemaData) (front_seen : Front ScriptHandler) → schema_seen ≡ schema → front_seen ≡ front → (name : Name) (after : Option ℕ) → name ≡ schema.name → after ≡ version_after m schema.version version
       → (state : State ScriptHandler) → state ≡ fresh_state (left_of threw front) schema part → (turns : List (List Note)) → turns ≡ [] → IsRunning (scripted_body m schema_seen names front_seen threw) name version after state turns false None
-  running_seen schema_seen front_seen s f name after named left state is turns none =
+  running_seen can schema_seen front_seen s f name after named left state is turns none =
       subst (λ ts. IsRunning (scripted_body m schema_seen names front_seen threw) name version after state ts false None) (sym none)
       (subst (λ x. IsRunning (scripted_body m x names front_seen threw) name version after state [] false None) (sym s)
-      (subst (λ x. IsRunning (scripted_body m schema names x threw) name version after state [] false None) (sym f) (running_as name after named left state is)))
+      (subst (λ x. IsRunning (scripted_body m schema names x threw) name version after state [] false None) (sym f) (running_as can name after named left state is)))
+
+-- ---- what can be logged
+abbrev LogOpening : Type 0
+LogOpening = (mode : Mode) (schema : SchemaData) → (is_upgrade_mode mode ≡ true → is_logged_version schema.version ≡ true) → AreLoggable (opening_changes mode schema)
+
+abbrev LimitBody : Type 0
+LimitBody = (front : Front Script) (schema : SchemaData) (before : Option Database) → length schema.entries ≤ GREATEST_STORE_COUNT → WithinLimits (fresh_state front schema before)
+
+module _ (m : Mode) (schema : SchemaData) (names : List Name) (front : Front ScriptHandler) (part : Option Database) (threw : Bool) (b : Becomes (new_front m schema names) front) where
+  pub logs_begun : LogOpening → LimitBody → IsLoggableBody (scripted_body m schema names front threw) → CanLog (fresh_state (left_of threw front) schema part)
+  logs_begun opening limits l =
+      let w = limits (front_map script_seen (left_of threw front)) schema part l.few in
+      record {
+        loggable = subst (λ n. AreLoggable (opening_changes n schema)) (sym (left_mode threw front ∙ mode_of_body m schema names front b)) (opening m schema l.version);
+        within = record { requests = w.requests; bytes = w.bytes; changes = w.changes; stores = w.stores };
+      }
 
 -- ---- its part was made by its schema
 module _ (begun : BegunState) (p : BegunParts) (is : begun ≡ parts_seen p) (items : Items) (database : Name) (named : database ≡ p.schema.name) (version : Option ℕ) (stores : Stores)
@@ -142,3 +164,6 @@ module _ (begun : BegunState) (p : BegunParts) (is : begun ≡ parts_seen p) (it
   fits_so fits =
       let there : FitsWhole (part_of (scope_of_scripted (parts_seen p).body) items) (parts_seen p).body = subst (λ (b : BegunState). FitsWhole (part_of (scope_of_scripted b.body) items) b.body) is fits in
       subst (λ o. FitsWhole o (parts_seen p).body) (sym its_part) there
+
+  pub logs_so : IsLoggableBody begun.body → IsLoggableBody (scripted_body p.mode p.schema p.names p.front p.threw)
+  logs_so l = subst (λ (b : BegunState). IsLoggableBody b.body) is l

@@ -4,8 +4,9 @@
 --     begun_state, state_now        the state of the list machine as its body left it;  and now
 --     GoesSo                its turns so far lead from the one to the other
 --     StandsAfter                so it is while it goes on, and it is at its end
+--     CanLog, LogsSo        what it changed so far can be logged, and it is within its limits;  so it is while it goes on, and where it commits
 --     IsRunning             all of it
-use Rattle.std.specs.Prelude.{◌≡◌, ℕ, Bool, true, false, List, [], drop, length, map, Option, Some, None, option_map}
+use Rattle.std.specs.Prelude.{◌≡◌, ℕ, Bool, true, false, List, [], drop, length, map, Option, Some, None, option_map, ⊤}
 use Rattle.idb_calls.specs.declared.traces.Outcome.{Outcome}
 use Rattle.idb_calls.specs.declared.traces.Outcome.TheVariants.{Committed, Aborted}
 use Rattle.idb_keys.specs.declared.names.Mode.{Mode}
@@ -17,6 +18,8 @@ use Rattle.list_machine.specs.declared.steps.Step.TheVariants as step
 use Rattle.list_machine.specs.States.{State, fresh_state}
 use Rattle.list_machine.specs.Machine.{Turn}
 use Rattle.list_machine.specs.Seeing.{state_map}
+use Rattle.machine_laws.specs.Limiting.{WithinLimits}
+use Rattle.loggable_changes.specs.Logging.{AreLoggable}
 use Rattle.serial_order.specs.FinishEntries.{ScriptedBody, front_left}
 use Rattle.serial_order.specs.SerialRuns.{GoesBy, AbortsItself}
 use Rattle.serial_order.specs.NumberOrder.{FitsWhole}
@@ -61,6 +64,15 @@ StandsAfter body state turns is_stuck (Some Committed) = HasRunOut body state tu
 StandsAfter body state turns is_stuck (Some (Aborted error true)) = ⊥
 StandsAfter body state turns is_stuck (Some (Aborted error false)) = AbortsItself ScriptReacts ScriptWrites (begun_state body state.before) error turns [] × (state.database ≡ state.before)
 
+pub record CanLog {D : Type 0} (state : State D) : Type 0 where
+  pub loggable : AreLoggable state.changes
+  pub within : WithinLimits state
+
+abbrev pub LogsSo : State ScriptHandler → Bool → Option Outcome → Type 0
+LogsSo state is_stuck None = is_stuck ≡ false → CanLog state
+LogsSo state is_stuck (Some Committed) = CanLog state
+LogsSo state is_stuck (Some (Aborted error doubt)) = ⊤
+
 -- with the version of its database before it, and the one at which it leaves it
 pub record IsRunning (body : ScriptedBody Script) (name : Name) (before after : Option ℕ) (state : State ScriptHandler) (turns : List (List Note)) (is_stuck : Bool) (end : Option Outcome) : Type 0 where
   pub placed : Becomes (new_front body.mode body.schema body.names) body.front
@@ -69,3 +81,4 @@ pub record IsRunning (body : ScriptedBody Script) (name : Name) (before after : 
   pub before_is : before ≡ version_there state.before
   pub after_is : after ≡ version_after body.mode body.schema.version (version_there state.before)
   pub came : StandsAfter body state turns is_stuck end
+  pub logs : LogsSo state is_stuck end

@@ -8,7 +8,7 @@ ghost use Rattle.serial_order.specs.NumberOrder.{FitsWhole};
 ghost use Rattle.live_stores.specs.Live.{database_at};
 ghost use Rattle.session_databases.specs.Parts.{without_part};
 ghost use Rattle.client_parts.specs.Begun.{scripted_body};
-ghost use Rattle.session_txs.specs.Running.{scope_of_scripted, begun_tx};
+ghost use Rattle.session_txs.specs.Running.{scope_of_scripted, begun_tx, IsLoggableBody};
 ghost use Rattle.session_txs.specs.Keeping.{version_after};
 
 use crate::fronts::left_front;
@@ -19,6 +19,8 @@ use idb_keys::Mode;
 use index_tables::Tables;
 use live_stores::{LiveStores, Stores};
 use live_tx::{LiveTx, live_laws};
+use loggable_changes::loggable_change_laws;
+use machine_laws::limit_laws;
 use script_handlers::ScriptHandler;
 use session_databases::SessionDatabases;
 use std::alloc::Global;
@@ -26,7 +28,7 @@ use std::snapshot::Snapshot;
 use tx_courses::{Course, opening_changes};
 
 /// A transaction whose body has run begins: the part of the databases that its scope names is taken out of them. No store is copied.
-/// It was made by the schema of that part. After `NoMemory` nothing is said of the databases.
+/// It was made by the schema of that part, and what it changes can be logged. After `NoMemory` nothing is said of the databases.
 pub fn begin<T: Tables>(
     alloc: Global,
     databases: &mut SessionDatabases<T>,
@@ -34,6 +36,7 @@ pub fn begin<T: Tables>(
     begun: BegunTx,
 ) -> Result<SessionTx<T>, NoMemory>
     requires fits { FitsWhole (part_of (scope_of_scripted begun.body) databases.old) begun.body }
+    requires loggable { IsLoggableBody begun.body }
     ensures begins { IfOk result (λ tx. tx ≡ begun_tx number begun.body databases.old) }
     ensures left { OnOk result
         (databases.new ≡ without_part (scope_of_scripted begun.body) databases.old) }
@@ -56,6 +59,7 @@ fn running<T: Tables>(
     requires none { version ≡ None → stores ≡ finite.empty }
     requires fits { FitsWhole (database_at version stores)
         (scripted_body parts.mode parts.schema parts.names parts.front parts.threw) }
+    requires loggable { IsLoggableBody (scripted_body parts.mode parts.schema parts.names parts.front parts.threw) }
     ensures { IfOk result (λ tx. tx ≡ record {
       number = number;
       body = scripted_body parts.mode parts.schema parts.names parts.front parts.threw;
@@ -67,6 +71,8 @@ fn running<T: Tables>(
     let name = parts.schema.name().copy(alloc)?;
     let changes = opening_changes(alloc, parts.mode, &parts.schema)?;
     live_laws::<ScriptHandler>();
+    loggable_change_laws();
+    limit_laws::<ScriptHandler>();
     let BegunParts {
         mode,
         durability,

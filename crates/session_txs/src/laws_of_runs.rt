@@ -9,6 +9,7 @@ ghost use Rattle.item_changes.specs.Scopes.{AllWithin, part_of};
 ghost use Rattle.request_lists.specs.Fronts.{new_front};
 ghost use Rattle.request_lists.specs.Placing.{Becomes};
 ghost use Rattle.list_machine.specs.States.{State};
+ghost use Rattle.machine_laws.specs.Keeping.{IsState};
 ghost use Rattle.serial_order.specs.FinishEntries.{ScriptedBody};
 ghost use Rattle.serial_order.specs.SerialRuns.{GoesBy, ScriptedRun};
 ghost use Rattle.serial_order.specs.NumberOrder.{FitsWhole};
@@ -21,13 +22,18 @@ use machine_laws::state_laws;
 use script_handlers::ScriptHandler;
 use serial_order::serial_laws;
 
-/// The laws of a run: its changes lead from its part as it was to the part now, and are in its scope.
+/// The laws of a run: its changes lead from its part as it was to the part now, and are in its scope; and its state is one at every
+/// moment.
 pub(crate) fn run_laws()
     ensures made { (body : ScriptedBody Script) (part : Option Database) (new : State Script)
         (turns : List (List Note))
         → Becomes (new_front body.mode body.schema body.names) body.front → FitsWhole part body
         → GoesBy ScriptReacts ScriptWrites (begun_state body part) new turns
         → made_all new.changes part ≡ new.database }
+    ensures states { (body : ScriptedBody Script) (part : Option Database) (new : State Script)
+        (turns : List (List Note))
+        → Becomes (new_front body.mode body.schema body.names) body.front → FitsWhole part body
+        → GoesBy ScriptReacts ScriptWrites (begun_state body part) new turns → IsState new }
     ensures within { (body : ScriptedBody Script) (items : Items) (turns : List (List Note))
         (changes : List DeltaTree) (kept : Option SchemaData)
         → ScriptedRun ScriptReacts ScriptWrites (part_of (scope_of_scripted body) items)

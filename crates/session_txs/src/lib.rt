@@ -16,7 +16,7 @@ mod turns;
 
 pub use beginning::begin;
 pub use cancelling::cancel_begun;
-pub use deleting::delete_database;
+pub use deleting::{delete_database, deletion_trace};
 pub use session_tx::{SessionTx, TxEnd};
 
 #[cfg(test)]

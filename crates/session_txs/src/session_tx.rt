@@ -1,5 +1,8 @@
 // A transaction of a session that runs.
 ghost use Rattle.std.specs.Prelude.{◌≡◌, ◌≢◌, None, Some, true, not, is_some, length, IfOk};
+ghost use Rattle.idb_base.specs.Lists.{IsWithinLimit};
+ghost use Rattle.idb_calls.specs.declared.traces.Outcome.TheVariants.{Committed};
+ghost use Rattle.loggable_changes.specs.Logging.{AreLoggable};
 ghost use Rattle.request_lists.specs.Fronts.{is_read_only_mode};
 ghost use Rattle.list_machine.specs.declared.steps.Step.TheVariants as steps;
 ghost use Rattle.serial_order.specs.SerialRuns.{schema_kept};
@@ -10,16 +13,19 @@ use crate::turns::{TurnNotes, note_turn};
 use clone_values::{Text, Texts};
 use edge_traits::Gate;
 use idb_base::NoMemory;
-use idb_calls::Outcome;
+use idb_calls::{Deltas, Outcome, TxTrace};
 use idb_keys::Mode;
 use idb_schema::Schema;
 use index_tables::Tables;
 use list_machine::Step;
 use live_tx::LiveTx;
+use loggable_changes::{loggable_change_laws, logging_laws};
+use machine_laws::limit_laws;
 use request_lists::TxFront;
 use script_handlers::ScriptHandler;
 use script_runs::Notes;
 use session_databases::{SessionDatabases, part_laws};
+use std::alloc::Global;
 use std::marker::Model;
 use std::snapshot::Snapshot;
 
@@ -68,7 +74,8 @@ impl<T: Tables> Model for SessionTx<T> {
 /// How a transaction ended.
 #[derive(Drop)]
 pub struct TxEnd {
-    pub outcome: Outcome,
+    /// What is told of it: a committed one has its changes, in the order in which they took effect, and an aborted one none.
+    pub trace: TxTrace,
     /// The schema as the calls of a committed upgrade left it.
     pub kept: Option<Schema>,
 }
@@ -109,9 +116,14 @@ impl<T: Tables> SessionTx<T> {
             return Step::NoMemory;
         }
         self.is_stuck = true;
+        run_laws();
+        logging_laws::<ScriptHandler>();
+        limit_laws::<ScriptHandler>();
+        self.live.stand_sound();
         let before = Snapshot::of(&*notes);
         match self.live.step(notes) {
             Step::Did => {
+                self.live.stand_sound();
                 match note_turn(&mut self.turns, before, notes) {
                     Ok(()) => {}
                     Err(_) => return Step::NoMemory,
@@ -120,6 +132,7 @@ impl<T: Tables> SessionTx<T> {
                 return Step::Did;
             }
             Step::Idle => {
+                self.live.stand_sound();
                 self.end = Some(Outcome::Committed);
                 return Step::Idle;
             }
@@ -139,14 +152,23 @@ impl<T: Tables> SessionTx<T> {
     }
 
     /// It finishes: its part goes back into the databases, as it committed it, or as it was where it aborted.
-    pub fn finish(self, databases: &mut SessionDatabases<T>) -> Result<TxEnd, NoMemory>
+    pub fn finish(
+        self,
+        alloc: Global,
+        databases: &mut SessionDatabases<T>,
+    ) -> Result<TxEnd, NoMemory>
         requires ended { is_some self.end ≡ true }
-        ensures outcome { IfOk result (λ e. self.end ≡ Some e.outcome) }
-        ensures ran { IfOk result (λ e.
-            RanAndLeft self e.outcome e.kept databases.old databases.new) }
+        ensures outcome { IfOk result (λ e. self.end ≡ Some e.trace.outcome) }
+        ensures ran { IfOk result (λ e. RanAndLeft self e.trace.outcome e.kept e.trace.deltas
+            databases.old databases.new) }
+        ensures loggable { IfOk result (λ e. e.trace.outcome ≡ Committed
+            → AreLoggable e.trace.deltas × IsWithinLimit e.trace.deltas) }
+        ensures number { IfOk result (λ e. e.trace.number ≡ self.number) }
+        ensures mode { IfOk result (λ e. e.trace.mode ≡ self.body.mode) }
     {
         part_laws();
         run_laws();
+        loggable_change_laws();
         let SessionTx {
             mode,
             name,
@@ -162,14 +184,28 @@ impl<T: Tables> SessionTx<T> {
             Some(Outcome::Committed) => {
                 databases.give(mode, &name, &names, after, done.stores)?;
                 return Ok(TxEnd {
-                    outcome: Outcome::Committed,
+                    trace: TxTrace {
+                        number: done.number,
+                        mode,
+                        durability: done.durability,
+                        deltas: done.deltas,
+                        lines: done.told,
+                        outcome: Outcome::Committed,
+                    },
                     kept: kept_by(mode, done.schema),
                 });
             }
             Some(Outcome::Aborted { error, doubt }) => {
                 databases.give(mode, &name, &names, before, done.stores)?;
                 return Ok(TxEnd {
-                    outcome: Outcome::Aborted { error, doubt },
+                    trace: TxTrace {
+                        number: done.number,
+                        mode,
+                        durability: done.durability,
+                        deltas: Deltas::new(alloc),
+                        lines: done.told,
+                        outcome: Outcome::Aborted { error, doubt },
+                    },
                     kept: None,
                 });
             }

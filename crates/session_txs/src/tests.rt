@@ -2,7 +2,7 @@
 ghost use Rattle.std.specs.Prelude.{◌≡◌, true, false, None, is_some, IfOk, OnOk};
 ghost use Rattle.item_changes.specs.Scopes.{part_of};
 ghost use Rattle.serial_order.specs.NumberOrder.{FitsWhole};
-ghost use Rattle.session_txs.specs.Running.{scope_of_scripted};
+ghost use Rattle.session_txs.specs.Running.{scope_of_scripted, IsLoggableBody};
 
 use super::*;
 use client_parts::{BegunParts, BegunTx};
@@ -97,7 +97,8 @@ fn client(alloc: Global, rows: &[Row]) -> Result<Arc<Client, Global>, Fail> {
 
 /// An upgrade to version 1 of a database that isn't there, whose body has these statements.
 fn begun(alloc: Global, rows: &[Row], notes: &mut Notes) -> Result<BegunTx, Fail>
-    ensures { IfOk result (λ tx. FitsWhole None tx.body) }
+    ensures fits { IfOk result (λ tx. FitsWhole None tx.body) }
+    ensures loggable { IfOk result (λ tx. IsLoggableBody tx.body) }
 {
     let mode = Mode::VersionChange;
     let stores = StoreInfos::new(alloc);
@@ -168,7 +169,8 @@ fn run(
     notes: &mut Notes,
     said: &mut String,
 ) -> Result<(), Fail>
-    requires { FitsWhole (part_of (scope_of_scripted begun.body) databases.old) begun.body }
+    requires fits { FitsWhole (part_of (scope_of_scripted begun.body) databases.old) begun.body }
+    requires loggable { IsLoggableBody begun.body }
 {
     let mut tx = begin(alloc, databases, 1, begun)?;
     if tx.may_write() {
@@ -176,7 +178,7 @@ fn run(
     }
     turns(&mut tx, notes, said)?;
     let _ = write!(said, "{}", notes.len());
-    if let Some(schema) = tx.finish(databases)?.kept {
+    if let Some(schema) = tx.finish(alloc, databases)?.kept {
         let _ = write!(said, " keeps {}", schema.len());
     }
     Ok(())
@@ -189,8 +191,10 @@ fn upgrade(alloc: Global, rows: &[Row], said: &mut String) -> Result<(), Fail> {
     let begun = begun(alloc, rows, &mut notes)?;
     if begun.may_begin() {
         run(alloc, &mut databases, begun, &mut notes, said)?;
-    } else if let Some(Outcome::Aborted { .. }) = cancel_begun(alloc, 1, begun, &mut notes)? {
-        let _ = write!(said, "cancelled {}", notes.len());
+    } else if let Some(trace) = cancel_begun(alloc, 1, begun, &mut notes)? {
+        if let Outcome::Aborted { .. } = trace.outcome {
+            let _ = write!(said, "cancelled {}", notes.len());
+        }
     }
     let name = text(alloc, "d")?;
     if let Some(version) = databases.version(&name) {

@@ -1,4 +1,5 @@
-use Rattle.std.proofs.Common.{rules}
+use Rattle.std.proofs.Common.{rules, ap}
+use Rattle.idb_calls.specs.declared.traces.TxTrace.{TxTrace}
 use Rattle.session_txs.proofs.Unstarted.{attended_left, ends_unstarted, front_placed}
 use Rattle.session_txs.proofs.cancelling.cancel_begun.Goals as goal
 
@@ -24,3 +25,6 @@ returns-in-Committing-clause-placed c = front_placed c.args.begun c.into_parts-d
 
 pub returns-in-Committed-clause-placed : goal.returns-in-Committed-clause-placed
 returns-in-Committed-clause-placed c = front_placed c.args.begun c.into_parts-durability.result c.into_parts-durability.ensures.parts c.into_parts-durability.ensures.became
+
+pub returns-in-Aborted-clause-number : goal.returns-in-Aborted-clause-number
+returns-in-Aborted-clause-number c = ap (λ (t : TxTrace). t.number) c.in_ok-trace-in-Aborted.ensures.trace

@@ -1,4 +1,4 @@
-use Rattle.std.proofs.Common.{◌≡◌, ℕ, Bool, List, [], Some, None, refl, sym, ◌∙◌, ap, subst}
+use Rattle.std.proofs.Common.{◌≡◌, ℕ, Bool, List, [], Some, None, refl, sym, ◌∙◌, ap, subst, arith}
 use Rattle.std.specs.FinMap as finite
 use Rattle.idb_keys.specs.declared.names.Mode.TheVariants as mode
 use Rattle.idb_schema.specs.Schemas.{SchemaData, new_schema}
@@ -7,6 +7,7 @@ use Rattle.request_lists.specs.Fronts.{Front}
 use Rattle.serial_order.specs.NumberOrder.{FitsWhole}
 use Rattle.script_handlers.specs.declared.handlers.ScriptHandler.{ScriptHandler}
 use Rattle.client_parts.specs.Begun.{BegunState, scripted_body}
+use Rattle.session_txs.specs.Running.{IsLoggableBody}
 use Rattle.session_txs.proofs.tests.begun.Goals as goal
 
 -- a new database has no stores, and no version that is to be raised
@@ -25,5 +26,12 @@ fits_as : (name : Name) (version : ℕ) (names : List Name) (front : Front Scrip
     → (begun : BegunState) → begun.body ≡ scripted_body mode.VersionChange schema names front threw → FitsWhole None begun.body
 fits_as name version names front threw schema new begun is = subst (FitsWhole None) (sym (is ∙ ap (λ s. scripted_body mode.VersionChange s names front threw) new)) (first_fits name version names front threw)
 
-pub returns : goal.returns
-returns c = fits_as _ 1 _ _ _ _ (c.in_ok-schema.ensures ∙ ap (new_schema _ 1) c.new-stores.ensures) c.new-tx.result (ap (λ (b : BegunState). b.body) c.new-tx.ensures)
+pub returns-clause-fits : goal.returns-clause-fits
+returns-clause-fits c = fits_as _ 1 _ _ _ _ (c.in_ok-schema.ensures ∙ ap (new_schema _ 1) c.new-stores.ensures) c.new-tx.result (ap (λ (b : BegunState). b.body) c.new-tx.ensures)
+
+logs_as : (name : Name) (names : List Name) (front : Front ScriptHandler) (threw : Bool) (schema : SchemaData) → schema ≡ new_schema name 1 []
+    → (begun : BegunState) → begun.body ≡ scripted_body mode.VersionChange schema names front threw → IsLoggableBody begun.body
+logs_as name names front threw schema new begun is = subst IsLoggableBody (sym (is ∙ ap (λ s. scripted_body mode.VersionChange s names front threw) new)) (record { version = λ e. refl; few = omega arith })
+
+pub returns-clause-loggable : goal.returns-clause-loggable
+returns-clause-loggable c = logs_as _ _ _ _ _ (c.in_ok-schema.ensures ∙ ap (new_schema _ 1) c.new-stores.ensures) c.new-tx.result (ap (λ (b : BegunState). b.body) c.new-tx.ensures)

@@ -1,0 +1,69 @@
+-- What was logged stays so, while clients act.
+--     durable_made          the durability of a transaction that drew its number
+--     logged_still          the commits of those that finished
+use Rattle.std.proofs.Common.{◌≡◌, ◌≤◌, ◌<◌, ℕ, Bool, true, false, ◌&&◌, List, [], ◌∷◌, ◌++◌, map, filter, if◌then◌else◌, Option, refl, sym, ◌∙◌, ap, subst, arith}
+use Rattle.std.specs.List.{AllByRecursion}
+use Rattle.idb_desk.specs.declared.steps.DeskStep.{DeskStep}
+use Rattle.idb_desk.specs.Desks.{DeskState}
+use Rattle.idb_desk.specs.Durabilities.{durability_drawn}
+use Rattle.idb_desk.specs.Steps.{DeskRun, desk_run, with_step, IsDeskRun}
+use Rattle.idb_desk.proofs.Laws.{next_grows, durability_stays}
+use Rattle.record_bytes.specs.declared.records.LogRecord.{LogRecord}
+use Rattle.log_history.specs.Batching.{Commit, is_strict}
+use Rattle.serial_order.specs.FinishEntries.{FinishEntry, did_commit}
+use Rattle.script_runs.specs.declared.notes.Note.{Note}
+use Rattle.script_handlers.specs.Handling.{Script}
+use Rattle.client_machine.specs.Acts.{Act, Noted, Makes, Fails, Begins, TakesTurn}
+use Rattle.client_machine.specs.Answering.{MadeAtOnce}
+use Rattle.client_ties.proofs.Laws.{run_before, run_after, made_before}
+use Rattle.legal_sessions.specs.Legal.{may_write, record_of_entry, records_logged, commits_at}
+use Rattle.session_states.specs.Telling.{BegunAt}
+use Rattle.session_states.specs.UnderWay.{HasBegun, AreFinishedAs}
+use Rattle.session_states.specs.Telling.{RunningTx}
+use Rattle.session_states.proofs.Beginnings.{all_below}
+
+-- ---- one that drew its number
+pub durable_made : (client : ℕ) (r last : DeskRun) (acts : List Act) → MadeAtOnce client r acts last → IsDeskRun last → (number : ℕ) → number < (desk_run r).board.scopes.next → durability_drawn last.order number ≡ durability_drawn r.order number
+durable_made client r last [] m run number less = ap (λ (q : DeskRun). durability_drawn q.order number) m
+durable_made client r last (Makes t told ∷ acts) m run number less =
+    let at = run_before r t (made_before client (with_step r t) last acts m.1.1 run) in
+    let grows = next_grows (desk_run r) t in
+    let more : number < (desk_run (with_step r t)).board.scopes.next = subst (λ (d : DeskState). number < d.board.scopes.next) (sym (run_after r t)) (omega (arith, less, grows)) in
+    durable_made client (with_step r t) last acts m.1.1 run number more ∙ durability_stays r t number at.1 less
+durable_made client r last (Fails t name ∷ acts) m run number less = durable_made client r last acts m.1.1 run number less
+durable_made client r last (Noted note ∷ acts) m run number less = durable_made client r last acts m run number less
+durable_made client r last (Begins tx ∷ acts) m run number less = durable_made client r last acts m run number less
+durable_made client r last (TakesTurn turn notes ∷ acts) m run number less = durable_made client r last acts m run number less
+
+-- ---- those that finished
+abbrev Entry : Type 0
+Entry = FinishEntry Script Note
+
+abbrev AreBelow : ℕ → List LogRecord → Type 0
+AreBelow next rs = AllByRecursion (λ (x : LogRecord). x.number < next) rs
+
+records_still : (client : ℕ) (r last : DeskRun) (acts : List Act) → MadeAtOnce client r acts last → IsDeskRun last → (rs : List LogRecord) → AreBelow (desk_run r).board.scopes.next rs → commits_at last.order rs ≡ commits_at r.order rs
+records_still client r last acts m run [] all = refl
+records_still client r last acts m run (x ∷ rs) all = λ i. record { strict = is_strict (durable_made client r last acts m run x.number all.0 i); logged = x } ∷ records_still client r last acts m run rs all.1 i
+
+front_below : (next : ℕ) (bs cs : List BegunAt) → AllByRecursion (λ (b : BegunAt). (1 ≤ b.tx.number) × (b.tx.number < next)) (bs ++ cs) → AllByRecursion (λ (b : BegunAt). b.tx.number < next) bs
+front_below next [] cs all = tt
+front_below next (b ∷ bs) cs all = (all.0.1, front_below next bs cs all.1)
+
+logged_first : (next : ℕ) (b : Bool) (e : Entry) (es : List Entry) → e.number < next → AreBelow next (map record_of_entry es) → AreBelow next (map record_of_entry (if b then e ∷ es else es))
+logged_first next true e es less all = (less, all)
+logged_first next false e es less all = all
+
+logged_below : (next : ℕ) (order : List DeskStep) (acts : List (List Act)) (bs : List BegunAt) (es : List Entry) → AreFinishedAs order acts bs es → AllByRecursion (λ (b : BegunAt). b.tx.number < next) bs → AreBelow next (records_logged es)
+logged_below next order acts [] [] are all = tt
+logged_below next order acts [] (e ∷ es) are all = absurd are
+logged_below next order acts (b ∷ bs) [] are all = absurd are
+logged_below next order acts (b ∷ bs) (e ∷ es) are all =
+    logged_first next (did_commit e.outcome && may_write e.body) e (filter (λ (f : Entry). did_commit f.outcome && may_write f.body) es) (subst (λ n. n < next) (sym are.0.number) all.0) (logged_below next order acts bs es are.1 all.1)
+
+pub logged_still : (client : ℕ) (r last : DeskRun) (own : List Act) → MadeAtOnce client r own last → IsDeskRun last → (acts : List (List Act)) (running : Option RunningTx) (done waiting : List BegunAt) (es : List Entry)
+    → HasBegun r acts running done waiting → AreFinishedAs r.order acts done es → commits_at last.order (records_logged es) ≡ commits_at r.order (records_logged es)
+logged_still client r last own m run acts running done waiting es begun are =
+    records_still client r last own m run (records_logged es)
+    (logged_below (desk_run r).board.scopes.next r.order acts done es are
+    (front_below (desk_run r).board.scopes.next done waiting (all_below 1 (desk_run r).board.scopes.next (done ++ waiting) begun.numbers)))
