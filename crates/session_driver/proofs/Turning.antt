@@ -56,7 +56,7 @@ use Rattle.session_facts.specs.Showing.{IsSoundKept}
 use Rattle.task_statements.specs.Offices.{OfficeState}
 use Rattle.session_txs.specs.Running.{SessionTxState, begun_tx, scope_of_scripted, with_one_turn, ended_tx, EndsUnstarted, IsDeletionTrace, RanAndLeft as TxFinishes}
 use Rattle.session_driver.specs.Measures.{beyond_memory}
-use Rattle.session_driver.specs.Scenes.{DoneNow, scene_of, LeadsTo, KeepsOn, StandsOn, record_if, with_finish_of, done_with}
+use Rattle.session_driver.specs.Scenes.{DoneNow, scene_of, LeadsTo, KeepsOn, StandsOn, record_if, with_finish_of, done_with_trace}
 use Rattle.session_driver.specs.Choosing.{IsDue}
 use Rattle.session_driver.specs.Running.{begun_run, one_turn_more, run_seen, left_items, LeavesSound, TurnLeads, EndLeads, FinishLeads, RunsOnInto, HasSureEnd, FinishedWith, HoldsTx, HoldsBegun, WasAborted}
 use Rattle.session_driver.proofs.Laws.{StartLaw, TurnLaw, FinishLaw, CancelLaw}
@@ -202,8 +202,8 @@ finishes_so running number trace told old new before after items left b is commi
       let finish : done.finish ++ number ∷ [] ≡ done.finish ++ trace.number ∷ [] = ap (λ n. done.finish ++ n ∷ []) (sym is) in
       let commits : done.commits ++ commits_at new.run.order (record_if b number trace.deltas) ≡ commits_with done.commits (record trace { durability = durability_drawn new.run.order trace.number }) =
       ap (λ n. done.commits ++ commits_at new.run.order (record_if b n trace.deltas)) (sym is) ∙ commits_as trace new.run done.commits b commit in
-      let same : with_finish_of done new.run number b trace.deltas ≡ done_with (record trace { durability = durability_drawn new.run.order trace.number }) done = λ i. record done { finish = finish i; commits = commits i } in
-      subst (λ (d : DoneNow). LeadsTo running None (scene_of old before done items) (scene_of new after d left)) (same ∙ ap (λ (t : TxTrace). done_with t done) (sym told_is)) (leads done);
+      let same : with_finish_of done new.run number b trace.deltas ≡ done_with_trace (record trace { durability = durability_drawn new.run.order trace.number }) done = λ i. record done { finish = finish i; commits = commits i } in
+      subst (λ (d : DoneNow). LeadsTo running None (scene_of old before done items) (scene_of new after d left)) (same ∙ ap (λ (t : TxTrace). done_with_trace t done) (sym told_is)) (leads done);
 }
 
 pub commit_is : (trace : TxTrace) (outcome : Outcome) (body : TxBody Script) (m : Mode) → trace.outcome ≡ outcome → trace.mode ≡ m → may_write body ≡ not (is_read_only_mode m) → is_commit trace ≡ (did_commit outcome && may_write body)
@@ -250,7 +250,7 @@ dropped_so number trace old new before after items is never leads = record {
       let none : commits_with done.commits trace ≡ done.commits = ap (λ w. if w then done.commits ++ commit_of trace ∷ [] else done.commits) (never_logged trace never) in
       let finish : done.finish ++ number ∷ [] ≡ done.finish ++ trace.number ∷ [] = ap (λ n. done.finish ++ n ∷ []) (sym is) in
       let commits : done.commits ++ [] ≡ commits_with done.commits trace = append-nil done.commits ∙ sym none in
-      let same : with_finish_of done new.run number false [] ≡ done_with trace done = λ i. record done { finish = finish i; commits = commits i } in
+      let same : with_finish_of done new.run number false [] ≡ done_with_trace trace done = λ i. record done { finish = finish i; commits = commits i } in
       subst (λ (d : DoneNow). LeadsTo None None (scene_of old before done items) (scene_of new after d items)) same (leads done);
 }
 
@@ -260,14 +260,14 @@ pub starts_finish : (number : ℕ) (body : TxBody Script) (trace : TxTrace) (old
     → FinishLeads (Some (begun_run number body)) number trace mid before items new after left → FinishLeads None number trace old before items new after left
 starts_finish number body trace old mid new before after items left starts finishes = record {
   number_is = finishes.number_is;
-  goes = λ done. leads_again None (Some (begun_run number body)) None (scene_of old before done items) (scene_of mid before done items) (scene_of new after (done_with trace done) left) (starts done) (finishes.goes done);
+  goes = λ done. leads_again None (Some (begun_run number body)) None (scene_of old before done items) (scene_of mid before done items) (scene_of new after (done_with_trace trace done) left) (starts done) (finishes.goes done);
 }
 
 -- the commits with it apply
 pub enters_so : (trace : TxTrace) (old new : OfficeState) (before after : List Note) (done : DoneNow) (items left : Items) (number : ℕ) → StandsOn None (scene_of old before done items) → FinishLeads None number trace old before items new after left
     → is_commit trace ≡ true → commits_apply done.opening (done.commits ++ commit_of trace ∷ []) ≡ true
 enters_so trace old new before after done items left number on leads commit =
-    let there = stands_behind None None (scene_of old before done items) (scene_of new after (done_with trace done) left) on (leads.goes done) in
+    let there = stands_behind None None (scene_of old before done items) (scene_of new after (done_with_trace trace done) left) on (leads.goes done) in
     let commits : commits_with done.commits trace ≡ done.commits ++ commit_of trace ∷ [] = ap (λ w. if w then done.commits ++ commit_of trace ∷ [] else done.commits) commit in
     let apply : after_records done.opening (records_of_commits (done.commits ++ commit_of trace ∷ [])) ≡ Some left =
     ap (λ cs. after_records done.opening (records_of_commits cs)) (sym commits ∙ sym there.at.commits) ∙ there.driven.logged ∙ ap (λ (is : Items). Some is) there.at.items in

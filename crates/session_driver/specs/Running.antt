@@ -33,7 +33,7 @@ use Rattle.task_statements.specs.Offices.{OfficeState}
 use Rattle.session_txs.specs.Running.{SessionTxState}
 use Rattle.session_driver.specs.Choosing.{IsDue}
 use Rattle.session_driver.specs.Measures.{beyond_memory}
-use Rattle.session_driver.specs.Scenes.{DoneNow, scene_of, LeadsTo, with_finish_of, done_with}
+use Rattle.session_driver.specs.Scenes.{DoneNow, scene_of, LeadsTo, with_finish_of, done_with_trace}
 
 abbrev pub begun_run : ℕ → TxBody Script → RunningTx
 begun_run number body = record { number = number; body = body; turns = [] }
@@ -64,7 +64,7 @@ pub record EndLeads (number : ℕ) (outcome : Outcome) (kept : Option SchemaData
 -- the transaction of this number, told so, left the desk
 pub record FinishLeads (running : Option RunningTx) (number : ℕ) (trace : TxTrace) (old : OfficeState) (before : List Note) (items : Items) (new : OfficeState) (after : List Note) (left : Items) : Type 0 where
   pub number_is : trace.number ≡ number
-  pub goes : (done : DoneNow) → LeadsTo running None (scene_of old before done items) (scene_of new after (done_with trace done) left)
+  pub goes : (done : DoneNow) → LeadsTo running None (scene_of old before done items) (scene_of new after (done_with_trace trace done) left)
 
 pub record RunsOnInto (old : OfficeState) (before : List Note) (tx : SessionTxState) (new : OfficeState) (after : List Note) (last : SessionTxState) : Type 0 where
   pub number : last.number ≡ tx.number

@@ -1,7 +1,7 @@
 -- What the steps of one client can change of a session, and what they lead to.
 --     DoneNow               the databases that the session began on, the numbers of the transactions that finished, and those that
 --                           committed and may write, as a log has them
---     done_in               as the session's book has them
+--     done_of_book               as the session's book has them
 --     Scene                 the client in its office, what it noted, what is done, and the databases
 --     scene_of, seat_on     a scene;  the client's seat in it
 --     IsSceneAt             what is held of the session is so at this place
@@ -15,7 +15,7 @@
 --     IsAtWork              so is that of this office and these notes
 --     record_if             the record of one that committed and may write
 --     with_finish_of        what is done, with one more that finished, which committed and may write or not
---     done_with             the same, as its trace tells it
+--     done_with_trace             the same, as its trace tells it
 use Rattle.std.specs.Prelude.{◌≡◌, ◌≤◌, ℕ, Bool, true, List, [], ◌∷◌, ◌++◌, slice_get, slice_set, if◌then◌else◌, Option, Some}
 use Rattle.idb_calls.specs.Deltas.{DeltaTree}
 use Rattle.idb_calls.specs.declared.traces.TxTrace.{TxTrace}
@@ -44,8 +44,8 @@ pub record DoneNow : Type 0 where
   pub finish : List ℕ
   pub commits : List Commit
 
-abbrev pub done_in : {D : Type 0} → SessionBookState D → DoneNow
-done_in book = record { opening = book.opening; finish = book.finished; commits = book.commits }
+abbrev pub done_of_book : {D : Type 0} → SessionBookState D → DoneNow
+done_of_book book = record { opening = book.opening; finish = book.finished; commits = book.commits }
 
 pub record Scene : Type 0 where
   pub office : OfficeState
@@ -115,5 +115,5 @@ record_if commits_too number changes = if commits_too then record { number = num
 abbrev pub with_finish_of : DoneNow → DeskRun → ℕ → Bool → List DeltaTree → DoneNow
 with_finish_of done r number commits_too changes = record done { finish = done.finish ++ number ∷ []; commits = done.commits ++ commits_at r.order (record_if commits_too number changes) }
 
-abbrev pub done_with : TxTrace → DoneNow → DoneNow
-done_with trace done = record done { finish = done.finish ++ trace.number ∷ []; commits = commits_with done.commits trace }
+abbrev pub done_with_trace : TxTrace → DoneNow → DoneNow
+done_with_trace trace done = record done { finish = done.finish ++ trace.number ∷ []; commits = commits_with done.commits trace }

@@ -1,5 +1,5 @@
 // The driver.
-ghost use Rattle.std.specs.Prelude.{◌≡◌, ◌<◌, ◌≤◌, ◌+◌, ◌-◌, ℕ, true, false, [], length, map, Some, None, IfOk, OnOk, OnErr, IsErrOf};
+ghost use Rattle.std.specs.Prelude.{◌≡◌, ◌<◌, ◌≤◌, ◌+◌, ◌-◌, ℕ, true, false, [], length, map, Some, None, IfOk, OnOk, OnErr, IsErrOf, is_some};
 ghost use Rattle.std.specs.FinMap as finite;
 ghost use Rattle.item_changes.specs.Items.{Items};
 ghost use Rattle.idb_desk.specs.Steps.{desk_run};
@@ -11,7 +11,7 @@ ghost use Rattle.legal_sessions.specs.Legal.{has_of};
 ghost use Rattle.session_states.specs.Sessions.{IsAtEnd};
 ghost use Rattle.session_driver.specs.Choosing.{next_move, IsMoveOf, IsChosen};
 ghost use Rattle.session_driver.specs.Measures.{beyond_memory, left_to, session_left};
-ghost use Rattle.session_driver.specs.Scenes.{DoneNow, done_in, scene_of, LeadsTo, StandsOn};
+ghost use Rattle.session_driver.specs.Scenes.{DoneNow, done_of_book, scene_of, LeadsTo, StandsOn};
 ghost use Rattle.session_driver.specs.declared.choosing.NextMove.TheVariants as move;
 ghost use Rattle.idb_databases.specs.Items.{is_within_limits};
 ghost use Rattle.gate_log.specs.Log.{disk_of, failed_at};
@@ -55,11 +55,11 @@ fn move_in<T: Tables, D: Disk, G: Gate>(
     book: &mut SessionBook<D, T>,
 ) -> Result<(), Halt>
     requires due { IsMoveOf office.old.run office.old.client number }
-    requires on { StandsOn None (scene_of office.old notes.old (done_in book.old) databases.old) }
+    requires on { StandsOn None (scene_of office.old notes.old (done_of_book book.old) databases.old) }
     requires runs { book.old.end ≡ Dropped }
     ensures leads { OnOk result (LeadsTo None None
-        (scene_of office.old notes.old (done_in book.old) databases.old)
-        (scene_of office.new notes.new (done_in book.new) databases.new)) }
+        (scene_of office.old notes.old (done_of_book book.old) databases.old)
+        (scene_of office.new notes.new (done_of_book book.new) databases.new)) }
     ensures less { OnOk result (left_to office.new.client notes.new + (beyond_memory - length book.new.finished)
         < left_to office.old.client notes.old + (beyond_memory - length book.old.finished)) }
     ensures runs { OnOk result (book.new.end ≡ Dropped) }
@@ -68,6 +68,7 @@ fn move_in<T: Tables, D: Disk, G: Gate>(
     ensures disk_fault { IsErrOf result Halt.DiskFault
         → Rose (D.shows book.old.log.disk).faults (D.shows book.new.log.disk).faults }
     ensures count { (D.shows book.old.log.disk).faults ≤ (D.shows book.new.log.disk).faults }
+    ensures told { is_some (D.shows book.new.log.disk).reads ≡ is_some (D.shows book.old.log.disk).reads }
 {
     match number {
         Some(number) => {
@@ -93,11 +94,11 @@ fn move_client<T: Tables, D: Disk, G: Gate>(
     databases: &mut SessionDatabases<T>,
     book: &mut SessionBook<D, T>,
 ) -> Result<Desk, Halt>
-    requires driving { IsDriving of.now.value desk seats.old.items (done_in book.old) databases.old }
+    requires driving { IsDriving of.now.value desk seats.old.items (done_of_book book.old) databases.old }
     requires chosen { IsChosen desk seats.old.items place number }
     requires runs { book.old.end ≡ Dropped }
     ensures driving { IfOk result (λ last.
-        IsDriving of.now.value last seats.new.items (done_in book.new) databases.new) }
+        IsDriving of.now.value last seats.new.items (done_of_book book.new) databases.new) }
     ensures less { OnOk result
         (session_left seats.new.items book.new.finished < session_left seats.old.items book.old.finished) }
     ensures runs { OnOk result (book.new.end ≡ Dropped) }
@@ -106,6 +107,7 @@ fn move_client<T: Tables, D: Disk, G: Gate>(
     ensures disk_fault { IsErrOf result Halt.DiskFault
         → Rose (D.shows book.old.log.disk).faults (D.shows book.new.log.disk).faults }
     ensures count { (D.shows book.old.log.disk).faults ≤ (D.shows book.new.log.disk).faults }
+    ensures told { is_some (D.shows book.new.log.disk).reads ≡ is_some (D.shows book.old.log.disk).reads }
 {
     let seat = seats.remove(place);
     let Seat {
@@ -164,10 +166,10 @@ fn advance<T: Tables, D: Disk, G: Gate>(
     databases: &mut SessionDatabases<T>,
     book: &mut SessionBook<D, T>,
 ) -> Result<(Desk, bool), Halt>
-    requires driving { IsDriving of.now.value desk seats.old.items (done_in book.old) databases.old }
+    requires driving { IsDriving of.now.value desk seats.old.items (done_of_book book.old) databases.old }
     requires runs { book.old.end ≡ Dropped }
     ensures driving { IfOk result (λ r.
-        IsDriving of.now.value r.0 seats.new.items (done_in book.new) databases.new) }
+        IsDriving of.now.value r.0 seats.new.items (done_of_book book.new) databases.new) }
     ensures end { IfOk result (λ r. r.1 ≡ false → next_move (desk_run r.0) seats.new.items ≡ move.Nothing) }
     ensures less { IfOk result (λ r. r.1 ≡ true
         → session_left seats.new.items book.new.finished < session_left seats.old.items book.old.finished) }
@@ -177,6 +179,7 @@ fn advance<T: Tables, D: Disk, G: Gate>(
     ensures disk_fault { IsErrOf result Halt.DiskFault
         → Rose (D.shows book.old.log.disk).faults (D.shows book.new.log.disk).faults }
     ensures count { (D.shows book.old.log.disk).faults ≤ (D.shows book.new.log.disk).faults }
+    ensures told { is_some (D.shows book.new.log.disk).reads ≡ is_some (D.shows book.old.log.disk).reads }
 {
     match next_move(&desk, seats.as_slice()) {
         NextMove::Client(place) => Ok((
@@ -214,18 +217,19 @@ fn drive<T: Tables, D: Disk, G: Gate>(
     databases: &mut SessionDatabases<T>,
     book: &mut SessionBook<D, T>,
 ) -> Result<Desk, Halt>
-    requires driving { IsDriving of.now.value desk seats.old.items (done_in book.old) databases.old }
+    requires driving { IsDriving of.now.value desk seats.old.items (done_of_book book.old) databases.old }
     requires runs { book.old.end ≡ Dropped }
     ensures driving { IfOk result (λ last.
-        IsDriving of.now.value last seats.new.items (done_in book.new) databases.new) }
+        IsDriving of.now.value last seats.new.items (done_of_book book.new) databases.new) }
     ensures end { IfOk result (λ last.
-        IsAtEnd (session_seen last seats.new.items (done_in book.new) databases.new)) }
+        IsAtEnd (session_seen last seats.new.items (done_of_book book.new) databases.new)) }
     ensures runs { OnOk result (book.new.end ≡ Dropped) }
 
     ensures opening { book.new.opening ≡ book.old.opening }
     ensures disk_fault { IsErrOf result Halt.DiskFault
         → Rose (D.shows book.old.log.disk).faults (D.shows book.new.log.disk).faults }
     ensures count { (D.shows book.old.log.disk).faults ≤ (D.shows book.new.log.disk).faults }
+    ensures told { is_some (D.shows book.new.log.disk).reads ≡ is_some (D.shows book.old.log.disk).reads }
 {
     let mut desk = desk;
     'moves: loop {
@@ -246,11 +250,11 @@ fn run_to_end<T: Tables, D: Disk, G: Gate>(
     opening: SessionOpening<T>,
     book: &mut SessionBook<D, T>,
 ) -> Result<(Desk, Vec<Seat>, Opening), Halt>
-    requires fresh { BeginsOn opening.databases opening.schemas opening.lines (done_in book.old) }
+    requires fresh { BeginsOn opening.databases opening.schemas opening.lines (done_of_book book.old) }
     requires runs { book.old.end ≡ Dropped }
     ensures ends { IfOk result (λ r. (items : Items)
-        × IsDriving session r.0 r.1.items (done_in book.new) items
-        × IsAtEnd (session_seen r.0 r.1.items (done_in book.new) items)) }
+        × IsDriving session r.0 r.1.items (done_of_book book.new) items
+        × IsAtEnd (session_seen r.0 r.1.items (done_of_book book.new) items)) }
     ensures lines { IfOk result (λ r. r.2 ≡ map has_of (finite.entries book.new.opening)) }
     ensures end { OnOk result (book.new.end ≡ own_log_end session.drop_end) }
 
@@ -258,6 +262,7 @@ fn run_to_end<T: Tables, D: Disk, G: Gate>(
     ensures disk_fault { IsErrOf result Halt.DiskFault
         → Rose (D.shows book.old.log.disk).faults (D.shows book.new.log.disk).faults }
     ensures count { (D.shows book.old.log.disk).faults ≤ (D.shows book.new.log.disk).faults }
+    ensures told { is_some (D.shows book.new.log.disk).reads ≡ is_some (D.shows book.old.log.disk).reads }
 {
     under_way_laws();
     fitting_laws();
@@ -292,8 +297,8 @@ fn open_and_run<T: Tables, D: Disk, G: Gate>(
     requires within { is_within_limits databases ≡ true }
     requires runs { book.old.end ≡ Dropped }
     ensures ends { IfOk result (λ r. (items : Items)
-        × IsDriving session r.0 r.1.items (done_in book.new) items
-        × IsAtEnd (session_seen r.0 r.1.items (done_in book.new) items)) }
+        × IsDriving session r.0 r.1.items (done_of_book book.new) items
+        × IsAtEnd (session_seen r.0 r.1.items (done_of_book book.new) items)) }
     ensures lines { IfOk result (λ r. r.2 ≡ map has_of (finite.entries book.new.opening)) }
     ensures end { OnOk result (book.new.end ≡ own_log_end session.drop_end) }
 
@@ -301,6 +306,7 @@ fn open_and_run<T: Tables, D: Disk, G: Gate>(
     ensures disk_fault { IsErrOf result Halt.DiskFault
         → Rose (D.shows book.old.log.disk).faults (D.shows book.new.log.disk).faults }
     ensures count { (D.shows book.old.log.disk).faults ≤ (D.shows book.new.log.disk).faults }
+    ensures told { is_some (D.shows book.new.log.disk).reads ≡ is_some (D.shows book.old.log.disk).reads }
 {
     let opening = open_databases(alloc, databases)?;
     run_to_end(alloc, gate, session, opening, book)
@@ -326,6 +332,7 @@ pub fn run_session<T: Tables, D: Disk, G: Gate>(
     ensures disk_fault { IsErrOf result.0 Halt.DiskFault
         → Rose (D.shows (disk_of opened.log)).faults (D.shows result.1).faults }
     ensures count { (D.shows (disk_of opened.log)).faults ≤ (D.shows result.1).faults }
+    ensures told { is_some (D.shows result.1).reads ≡ is_some (D.shows (disk_of opened.log)).reads }
 {
     under_way_laws();
     let drop_end = session.drop_end;

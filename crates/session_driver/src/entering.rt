@@ -1,5 +1,5 @@
 // A transaction that finished is entered in the book.
-ghost use Rattle.std.specs.Prelude.{◌≡◌, ◌++◌, ◌∷◌, [], ◌<◌, ◌≤◌, true, length, OnOk, IsErrOf};
+ghost use Rattle.std.specs.Prelude.{◌≡◌, ◌++◌, ◌∷◌, [], ◌<◌, ◌≤◌, true, length, OnOk, IsErrOf, is_some};
 ghost use Rattle.edge_traits.specs.Faults.{Rose};
 ghost use Rattle.idb_desk.specs.Durabilities.{durability_drawn};
 ghost use Rattle.log_history.specs.Batching.{commit_of};
@@ -8,7 +8,7 @@ ghost use Rattle.tx_book.specs.Entries.{CanBeLogged};
 ghost use Rattle.session_books.specs.States.{commits_apply};
 ghost use Rattle.session_books.specs.Entering.{is_commit};
 ghost use Rattle.session_driver.specs.Measures.{beyond_memory};
-ghost use Rattle.session_driver.specs.Scenes.{done_in, done_with};
+ghost use Rattle.session_driver.specs.Scenes.{done_of_book, done_with_trace};
 
 use disk_trait::Disk;
 use idb_base::NoMemory;
@@ -74,13 +74,14 @@ pub(crate) fn enter<D: Disk, T: Tables>(
     requires loggable { is_commit trace.now ≡ true → CanBeLogged trace.now }
     requires applies { is_commit trace.now ≡ true
         → commits_apply book.old.opening (book.old.commits ++ commit_of trace.now ∷ []) ≡ true }
-    ensures done { OnOk result (done_in book.new ≡ done_with trace.now (done_in book.old)) }
+    ensures done { OnOk result (done_of_book book.new ≡ done_with_trace trace.now (done_of_book book.old)) }
     ensures few { OnOk result (length book.new.finished < beyond_memory) }
     ensures runs { OnOk result (book.new.end ≡ Dropped) }
     ensures opening { book.new.opening ≡ book.old.opening }
     ensures disk_fault { IsErrOf result Halt.DiskFault
         → Rose (D.shows book.old.log.disk).faults (D.shows book.new.log.disk).faults }
     ensures count { (D.shows book.old.log.disk).faults ≤ (D.shows book.new.log.disk).faults }
+    ensures told { is_some (D.shows book.new.log.disk).reads ≡ is_some (D.shows book.old.log.disk).reads }
 {
     book.enter(trace)?;
     let _ = book.finished_count();

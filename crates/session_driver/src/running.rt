@@ -1,5 +1,5 @@
 // A transaction is run whole.
-ghost use Rattle.std.specs.Prelude.{◌≡◌, ◌+◌, ◌<◌, ◌&&◌, ◌≤◌, List, true, false, [], ◌∷◌, drop, length, Some, None, IfOk, OnOk, IfSome, IfNone, IsErrOf};
+ghost use Rattle.std.specs.Prelude.{◌≡◌, ◌+◌, ◌<◌, ◌&&◌, ◌≤◌, List, true, false, [], ◌∷◌, drop, length, Some, None, IfOk, OnOk, IfSome, IfNone, IsErrOf, is_some};
 ghost use Rattle.edge_traits.specs.Faults.{Rose};
 ghost use Rattle.idb_desk.specs.Steps.{desk_run};
 ghost use Rattle.idb_desk.specs.Refusals.{is_allowed};
@@ -12,7 +12,7 @@ ghost use Rattle.client_parts.specs.Holding.{body_seen};
 ghost use Rattle.session_facts.specs.Showing.{IsSoundKept};
 ghost use Rattle.session_driver.specs.Choosing.{IsDue};
 ghost use Rattle.session_driver.specs.Measures.{beyond_memory};
-ghost use Rattle.session_driver.specs.Scenes.{DoneNow, done_in, scene_of, LeadsTo, StandsOn};
+ghost use Rattle.session_driver.specs.Scenes.{DoneNow, done_of_book, scene_of, LeadsTo, StandsOn};
 ghost use Rattle.tx_book.specs.Entries.{CanBeLogged};
 ghost use Rattle.session_books.specs.Entering.{is_commit};
 ghost use Rattle.session_driver.specs.Running.{begun_run, TurnLeads, EndLeads, FinishLeads, RunsOnInto, HasSureEnd, FinishedWith, HoldsTx, HoldsBegun, WasAborted};
@@ -286,18 +286,19 @@ pub(crate) fn run_tx<T: Tables, D: Disk, G: Gate>(
     book: &mut SessionBook<D, T>,
 ) -> Result<(), Halt>
     requires due { IsDue office.old.run office.old.client number }
-    requires on { StandsOn None (scene_of office.old notes.old (done_in book.old) databases.old) }
+    requires on { StandsOn None (scene_of office.old notes.old (done_of_book book.old) databases.old) }
     requires runs { book.old.end ≡ Dropped }
     ensures leads { OnOk result (LeadsTo None None
-        (scene_of office.old notes.old (done_in book.old) databases.old)
-        (scene_of office.new notes.new (done_in book.new) databases.new)) }
-    ensures finishes { OnOk result (FinishedWith (done_in book.old) number (done_in book.new)) }
+        (scene_of office.old notes.old (done_of_book book.old) databases.old)
+        (scene_of office.new notes.new (done_of_book book.new) databases.new)) }
+    ensures finishes { OnOk result (FinishedWith (done_of_book book.old) number (done_of_book book.new)) }
     ensures runs { OnOk result (book.new.end ≡ Dropped) }
 
     ensures opening { book.new.opening ≡ book.old.opening }
     ensures disk_fault { IsErrOf result Halt.DiskFault
         → Rose (D.shows book.old.log.disk).faults (D.shows book.new.log.disk).faults }
     ensures count { (D.shows book.old.log.disk).faults ≤ (D.shows book.new.log.disk).faults }
+    ensures told { is_some (D.shows book.new.log.disk).reads ≡ is_some (D.shows book.old.log.disk).reads }
 {
     let trace = run_whole(alloc, gate, office, number, notes, databases)?;
     enter(book, &trace)?;
