@@ -271,7 +271,7 @@ tells_so session number r seats done items opened drop_end is opening =
     let lines = lines_same seats in
     cc
 
-abbrev LegalLaw : Type 0
+abbrev pub LegalLaw : Type 0
 LegalLaw = (session : ScriptSession) (number : ℕ) (opening : Items) (now : SessionNow) (running : Option RunningTx) → IsUnderWay session opening now running → IsAtEnd now
     → IsLegalReport session number opening (report_now session number opening now) now.commits now.items
 

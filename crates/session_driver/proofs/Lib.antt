@@ -8,3 +8,4 @@ pub mod Standing
 pub mod Turning
 pub mod Served
 pub mod Driving
+pub mod Ending
