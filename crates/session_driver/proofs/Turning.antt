@@ -5,7 +5,7 @@
 --     start_holds, start_aborted    what its client holds then, and where it didn't start
 --     scripted_allowed, deletion_allowed, is_finished       the desk lets it finish;  and its finish is noted
 --     scripted_leads, deletion_leads        it runs to its end
---     finishes_so, deletion_so, starts_finish       as its trace tells it
+--     timed_so, finishes_so, deletion_so, starts_finish       as its trace tells it
 --     loggable_so           and can be logged
 --     commit_is, enters_so  whether it is a commit;  with it the commits apply
 --     dropped_leads         one that its body aborted
@@ -193,6 +193,9 @@ commits_as : (trace : TxTrace) (r : DeskRun) (commits : List Commit) (b : Bool) 
     → commits ++ commits_at r.order (record_if b trace.number trace.deltas) ≡ commits_with commits (record trace { durability = durability_drawn r.order trace.number })
 commits_as trace r commits true is = ap (λ w. if w then commits ++ commit_of (record trace { durability = durability_drawn r.order trace.number }) ∷ [] else commits) (sym is)
 commits_as trace r commits false is = append-nil commits ∙ ap (λ w. if w then commits ++ commit_of (record trace { durability = durability_drawn r.order trace.number }) ∷ [] else commits) (sym is)
+
+pub timed_so : (trace told : TxTrace) (r last : DeskRun) → r ≡ last → told ≡ record trace { durability = durability_drawn r.order trace.number } → told ≡ record trace { durability = durability_drawn last.order trace.number }
+timed_so trace told r last same is = is ∙ ap (λ (q : DeskRun). record trace { durability = durability_drawn q.order trace.number }) same
 
 pub finishes_so : (running : Option RunningTx) (number : ℕ) (trace told : TxTrace) (old new : OfficeState) (before after : List Note) (items left : Items) (b : Bool) → trace.number ≡ number → is_commit trace ≡ b → told ≡ record trace { durability = durability_drawn new.run.order trace.number }
     → ((done : DoneNow) → LeadsTo running None (scene_of old before done items) (scene_of new after (with_finish_of done new.run number b trace.deltas) left)) → FinishLeads running number told old before items new after left

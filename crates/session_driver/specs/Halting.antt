@@ -1,7 +1,7 @@
 -- Why a session stops before its end.
 --     halt_of               an error of the book, as the driver hands it on
-use Rattle.session_books.specs.declared.entering.EnterError.{EnterError}
-use Rattle.session_books.specs.declared.entering.EnterError.TheVariants as enter
+use Rattle.session_books.specs.declared.error.EnterError.{EnterError}
+use Rattle.session_books.specs.declared.error.EnterError.TheVariants as enter
 use Rattle.session_driver.specs.declared.entering.Halt.{Halt}
 use Rattle.session_driver.specs.declared.entering.Halt.TheVariants as halt
 

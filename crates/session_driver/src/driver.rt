@@ -20,7 +20,7 @@ ghost use Rattle.session_driver.specs.Ending.{BeginsOn, own_log_end, ReportsOn, 
 ghost use Rattle.session_driver.specs.Seats.{session_seen, IsDriving};
 
 use crate::choosing::{NextMove, next_move};
-use crate::entering::Halt;
+use crate::entering::{Halt, end_log};
 use crate::reporting::report_of;
 use crate::running::run_tx;
 use crate::seats::{Seat, put_back, seats_of, shared};
@@ -278,9 +278,7 @@ fn run_to_end<T: Tables, D: Disk, G: Gate>(
     let mut seats = seats_of(alloc, session.clients)?;
     let desk = Desk::new(alloc, schemas)?;
     let desk = drive(alloc, gate, &of, desk, &mut seats, &mut databases, book)?;
-    if !drop_end {
-        book.flush()?;
-    }
+    end_log(book, drop_end)?;
     Ok((desk, seats, lines))
 }
 

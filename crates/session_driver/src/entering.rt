@@ -1,4 +1,4 @@
-// A transaction that finished is entered in the book.
+// A transaction that finished is entered in the book, and the book is ended.
 ghost use Rattle.std.specs.Prelude.{◌≡◌, ◌++◌, ◌∷◌, [], ◌<◌, ◌≤◌, true, length, OnOk, IsErrOf, is_some};
 ghost use Rattle.edge_traits.specs.Faults.{Rose};
 ghost use Rattle.idb_desk.specs.Durabilities.{durability_drawn};
@@ -8,6 +8,7 @@ ghost use Rattle.tx_book.specs.Entries.{CanBeLogged};
 ghost use Rattle.session_books.specs.States.{commits_apply};
 ghost use Rattle.session_books.specs.Entering.{is_commit};
 ghost use Rattle.session_driver.specs.Measures.{beyond_memory};
+ghost use Rattle.session_driver.specs.Ending.{own_log_end};
 ghost use Rattle.session_driver.specs.Scenes.{done_of_book, done_with_trace};
 
 use disk_trait::Disk;
@@ -85,5 +86,26 @@ pub(crate) fn enter<D: Disk, T: Tables>(
 {
     book.enter(trace)?;
     let _ = book.finished_count();
+    Ok(())
+}
+
+/// The commits that wait are written, unless the session drops them.
+pub(crate) fn end_log<D: Disk, T: Tables>(
+    book: &mut SessionBook<D, T>,
+    drop_end: bool,
+) -> Result<(), Halt>
+    requires runs { book.old.end ≡ Dropped }
+    ensures done { OnOk result (done_of_book book.new ≡ done_of_book book.old) }
+    ensures end { OnOk result (book.new.end ≡ own_log_end drop_end) }
+    ensures opening { book.new.opening ≡ book.old.opening }
+    ensures disk_fault { IsErrOf result Halt.DiskFault
+        → Rose (D.shows book.old.log.disk).faults (D.shows book.new.log.disk).faults }
+    ensures count { (D.shows book.old.log.disk).faults ≤ (D.shows book.new.log.disk).faults }
+    ensures told { is_some (D.shows book.new.log.disk).reads ≡ is_some (D.shows book.old.log.disk).reads }
+{
+    if drop_end {
+        return Ok(());
+    }
+    book.flush()?;
     Ok(())
 }

@@ -35,12 +35,7 @@ fn schema_of<T: Tables>(alloc: Global, database: &Database<T>) -> Result<Schema,
     ensures valid { IfOk result IsSchema }
 {
     let infos = infos_of(alloc, &database.stores)?;
-    let schema = Schema::new(
-        alloc,
-        database.name.copy(alloc)?,
-        database.version,
-        infos,
-    )?;
+    let schema = Schema::new(alloc, database.name.copy(alloc)?, database.version, infos)?;
     let _count = schema.len();
     Ok(schema)
 }

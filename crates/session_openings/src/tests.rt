@@ -124,9 +124,6 @@ fn databases_and_their_stores_stand_by_name(rt: HostRuntime) -> Result<(), Fail>
     }
     let mut said = String::new(alloc);
     tell(&mut said, &open_databases(alloc, databases)?)?;
-    assert_eq!(rt;
-        said.as_str(),
-        "a 1; b 3; a 1 s:k; b 3 s:i t:j; "
-    );
+    assert_eq!(rt; said.as_str(), "a 1; b 3; a 1 s:k; b 3 s:i t:j; ");
     Ok(())
 }

@@ -10,8 +10,8 @@ invariant-moves g l = record {
   driving : IsDriving l.of.value l.desk l.seats.items (done_of_book l.book) l.databases;
   runs : l.book.end ≡ Dropped;
   opening : l.book.opening ≡ l.initial.book.opening;
-  count : (g.D.shows l.initial.book.log.disk).faults ≤ (g.D.shows l.book.log.disk).faults;
-  told : is_some (g.D.shows l.book.log.disk).reads ≡ is_some (g.D.shows l.initial.book.log.disk).reads;
+  count : (g.D.Disk.shows l.initial.book.log.disk).faults ≤ (g.D.Disk.shows l.book.log.disk).faults;
+  told : is_some (g.D.Disk.shows l.book.log.disk).reads ≡ is_some (g.D.Disk.shows l.initial.book.log.disk).reads;
 }
 
 abbrev pub decreases-moves : goal.decreases-moves

@@ -6,7 +6,7 @@ use Rattle.serial_order.specs.FinishEntries.{Deletion}
 use Rattle.std.specs.Prelude.{Some}
 use Rattle.session_driver.specs.Running.{begun_run}
 use Rattle.session_driver.proofs.Standing.{there_at}
-use Rattle.session_driver.proofs.Turning.{deletion_leads, deletion_allowed, deletion_so, loggable_so}
+use Rattle.session_driver.proofs.Turning.{deletion_leads, deletion_allowed, deletion_so, timed_so, loggable_so}
 use Rattle.session_driver.proofs.running.run_deletion.Goals as goal
 
 pub finish_tx-requires-clause-allowed : goal.finish_tx-requires-clause-allowed
@@ -15,7 +15,7 @@ finish_tx-requires-clause-allowed g c = deletion_allowed c.telling_laws.ensures.
 pub returns-clause-leads : goal.returns-clause-leads
 returns-clause-leads g c =
     deletion_so c.args.number c.args.name c.in_ok-trace.trace c.timed.result c.args.office.now c.finish_tx.new.office c.args.notes.now c.finish_tx.new.notes c.args.databases.now c.delete_database.new.databases
-    c.in_ok-trace.ensures c.timed.ensures
+    c.in_ok-trace.ensures (timed_so c.in_ok-trace.trace c.timed.result c.desk.result.now c.finish_tx.new.office.run c.desk.ensures c.timed.ensures)
     (λ done. deletion_leads c.args.number c.args.name c.args.office.now c.finish_tx.new.office c.args.notes.now c.finish_tx.new.notes done c.args.databases.now c.delete_database.new.databases
     c.in_ok-finish_tx.ensures c.in_ok-delete_database.ensures
     (there_at c.showing_laws.ensures.exists (Some (begun_run c.args.number (Deletion c.args.name))) c.args.office.now c.args.notes.now c.requires.on.0 c.args.databases.now c.args.number c.args.name c.requires.on.1 c.requires.holds)

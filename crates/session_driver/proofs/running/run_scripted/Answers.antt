@@ -1,10 +1,10 @@
-use Rattle.std.proofs.Common.{◌≡◌, refl, sym, ap, ◌∙◌, subst, Some}
+use Rattle.std.proofs.Common.{◌≡◌, ◌&&◌, refl, sym, ap, ◌∙◌, subst, Some}
 use Rattle.serial_order.specs.FinishEntries.{Scripted, did_commit}
 use Rattle.legal_sessions.specs.Legal.{may_write}
 use Rattle.session_txs.specs.Running.{SessionTxState}
 use Rattle.session_driver.specs.Running.{begun_run}
 use Rattle.session_driver.proofs.Standing.{whole_at, loggable_at}
-use Rattle.session_driver.proofs.Turning.{scripted_leads, scripted_allowed, finishes_so, commit_is, loggable_so}
+use Rattle.session_driver.proofs.Turning.{scripted_leads, scripted_allowed, finishes_so, timed_so, commit_is, loggable_so}
 use Rattle.session_driver.proofs.running.run_scripted.Goals as goal
 
 pub begin-requires-clause-fits : goal.begin-requires-clause-fits
@@ -23,7 +23,7 @@ returns-clause-leads g c =
     (did_commit trace.outcome && may_write (Scripted last.body))
     (c.in_ok-end.ensures.number ∙ c.in_ok-run_turns.ensures.runs.number ∙ ap (λ (t : SessionTxState). t.number) c.in_ok-tx.ensures.begins)
     (commit_is trace trace.outcome (Scripted last.body) last.body.mode refl c.in_ok-end.ensures.mode refl)
-    c.timed.ensures
+    (timed_so trace c.timed.result c.desk.result.now c.finish_tx.new.office.run c.desk.ensures c.timed.ensures)
     (λ done. scripted_leads c.args.number c.args.begun.body c.args.office.now c.run_turns.new.office c.finish_tx.new.office c.args.notes.now c.run_turns.new.notes c.finish_tx.new.notes
     c.in_ok-tx.tx last trace.outcome c.in_ok-end.end.kept trace.deltas done c.args.databases.now c.begin.new.databases c.finish.new.databases
     c.in_ok-tx.ensures.begins c.in_ok-tx.ensures.left c.in_ok-run_turns.ensures.runs c.in_ok-end.ensures.outcome c.in_ok-run_turns.ensures.over c.in_ok-end.ensures.ran c.in_ok-finish_tx.ensures

@@ -12,7 +12,7 @@ unreachable-requires g c = none_past (finite.entries c.args.databases.now) c.loo
 pub loop-place-preserved : goal.loop-place-preserved
 loop-place-preserved g c = record {
   made = listed_more opened_schema (finite.entries c.args.databases.now) c.loop-place.place (database_entry c.in-Some.database.now) c.loop-place.schemas c.push.new.self c.in_ok-schema_of-in-Some.field-0
-    (sym c.in-Some.ensures) c.loop-place.invariant.made c.in_ok-schema_of-in-Some.ensures.made c.in_ok-push-in-Some.ensures.stored;
+      (sym c.in-Some.ensures) c.loop-place.invariant.made c.in_ok-schema_of-in-Some.ensures.made c.in_ok-push-in-Some.ensures.stored;
   valid = all_more IsSchema c.loop-place.schemas c.push.new.self c.in_ok-schema_of-in-Some.field-0 c.in_ok-push-in-Some.ensures.stored c.loop-place.invariant.valid c.in_ok-schema_of-in-Some.ensures.valid;
 }
 
