@@ -2,8 +2,10 @@
 use Rattle.std.proofs.Common.{◌≡◌, true, not, ◌&&◌, List, [], ◌∷◌, ◌++◌, Option, Some, None, refl, ap, ◌∙◌}
 use Rattle.std.proofs.lemmas.List.{map-append}
 use Rattle.value_bytes.specs.Steps.{◌>>=◌}
-use Rattle.item_changes.specs.Items.{Items}
+use Rattle.std.specs.FinMap as finite
+use Rattle.item_changes.specs.Items.{Name, Database, Items}
 use Rattle.item_changes.specs.Effects.{applied_all, all_apply}
+use Rattle.idb_databases.specs.Stores.{AreStores}
 use Rattle.idb_databases.specs.Items.{AreItems, is_within_limits}
 use Rattle.record_bytes.specs.declared.records.LogRecord.{LogRecord}
 use Rattle.log_history.specs.Replayed.{keeps_unique, stores_keep_unique, are_unbroken, is_at_rest, after_record, after_records}
@@ -11,11 +13,11 @@ use Rattle.log_history.specs.Batching.{Commit, records_of_commits}
 use Rattle.session_limits.proofs.Counting.{values_pass}
 
 -- each store is unbroken by itself
-pub unbroken : (items : Items) → AreItems items → are_unbroken items ≡ true
-unbroken items sound = values_pass stores_keep_unique items (λ db d at. values_pass keeps_unique d.stores (λ name x there. ap not ((sound db d at).stores name x there).1.content.unique))
+pub unbroken : (items : Items) → ((name : Name) (d : Database) → finite.get items name ≡ Some d → AreStores d.stores) → are_unbroken items ≡ true
+unbroken items sound = values_pass stores_keep_unique items (λ db d at. values_pass keeps_unique d.stores (λ name x there. ap not (sound db d at name x there).1.content.unique))
 
 pub rests : (items : Items) → AreItems items → is_within_limits items ≡ true → is_at_rest items ≡ true
-rests items sound few = ap (λ b. b && is_within_limits items) (unbroken items sound) ∙ few
+rests items sound few = ap (λ b. b && is_within_limits items) (unbroken items (λ name d at. (sound name d at).stores)) ∙ few
 
 pub record_gives : (items : Items) (r : LogRecord) → all_apply items r.deltas ≡ true → is_at_rest (applied_all items r.deltas) ≡ true → after_record items r ≡ Some (applied_all items r.deltas)
 record_gives items r apply rest = rw apply (rw rest refl)

@@ -2,8 +2,8 @@
 --     shows_items           they are those of the databases
 --     are_openable          no two have one name, and each has a version from 1 on
 --     are_few               none has more stores than it may
-use Rattle.std.proofs.Common.{◌≡◌, ℕ, ◌+◌, ◌≤◌, Bool, true, false, cond, nat_eq, T, List, [], ◌∷◌, map, length, Option, Some, None, option_map, is_some, inl, inr, refl, sym, ◌∙◌, ap, subst, arith}
-use Rattle.std.proofs.lemmas.Bool.{and_parts, cases_Bool, leb-true}
+use Rattle.std.proofs.Common.{◌≡◌, ℕ, ◌+◌, ◌≤◌, Bool, true, false, cond, nat_eq, T, List, [], ◌∷◌, map, length, Option, Some, None, option_map, is_some, refl, sym, ◌∙◌, ap, subst, arith}
+use Rattle.std.proofs.lemmas.Bool.{and_parts, leb-true}
 use Rattle.std.proofs.lemmas.List.{length-map}
 use Rattle.std.proofs.lemmas.Option.{none-some}
 use Rattle.std.specs.Cmp.{eq_by_cmp_equiv}
@@ -22,12 +22,11 @@ use Rattle.item_changes.specs.Items.{Name, name_cmp, is_same_name, Database, Ite
 use Rattle.item_changes.proofs.Laws.{names_total, one_name, same_name}
 use Rattle.idb_databases.specs.Items.{AreItems, fits_stores, is_within_limits}
 use Rattle.idb_databases.specs.Stores.{AreStores}
-use Rattle.idb_databases.specs.declared.limits.TheConstants.{GREATEST_DATABASE_COUNT}
 use Rattle.idb_databases.proofs.Laws.{all_found}
 use Rattle.list_machine.specs.declared.limits.TheConstants.{GREATEST_STORE_COUNT}
 use Rattle.machine_laws.specs.Keeping.{Shows, info_named}
 use Rattle.desk_facts.specs.Databases.{AreOpenable, is_schema_named}
-use Rattle.legal_sessions.specs.Histories.{has_schema_name, IsShownBy, ShowsItems}
+use Rattle.legal_sessions.specs.Histories.{has_schema_name, ShowsItems}
 use Rattle.session_facts.specs.Fitting.{AreFew}
 use Rattle.session_databases.proofs.Laws.{all_entries}
 use Rattle.session_openings.specs.Opened.{infos_in, opened_schema}

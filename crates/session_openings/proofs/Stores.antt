@@ -1,12 +1,11 @@
 -- The definitions of stores, in the order of their names.
+--     info_there            the definition of the store of an entry
 --     AreNamed, named_in    each store stands under its own name
 --     may_push              their names rise, up to the store at a place
 --     info_found            the definition that a name finds in a schema is that of the store that it finds
-use Rattle.std.proofs.Common.{◌≡◌, ℕ, zero, suc, ◌+◌, ◌&&◌, Bool, true, false, cond, T, if◌then◌else◌, List, [], ◌∷◌, ◌++◌, map, take, Option, Some, None, option_map, refl, sym, ◌∙◌, ap, subst}
-use Rattle.std.proofs.lemmas.List.{map_more, map_push}
-use Rattle.std.proofs.lemmas.Option.{slice_get_within, get_or_from_slice_get}
+use Rattle.std.proofs.Common.{◌≡◌, ℕ, zero, suc, ◌+◌, ◌&&◌, Bool, true, false, cond, T, if◌then◌else◌, List, [], ◌∷◌, ◌++◌, map, take, Option, Some, option_map, refl, sym, ◌∙◌, ap, subst}
+use Rattle.std.proofs.lemmas.List.{map_push}
 use Rattle.std.specs.Cmp.{eq_by_cmp_equiv}
-use Rattle.std.specs.Cmp.Lexicographic.{slice_cmp}
 use Rattle.std.specs.FinMap as finite
 use Rattle.std.specs.FinMap.{find, is_sorted}
 use Rattle.std.specs.FinMap.Entries.{below_all}

@@ -11,10 +11,10 @@ returns-in-Ok-told-clause-reports g c =
     let ends = c.in-Ok.ensures.ends in
     let seats = c.in-Ok.seats.items in
     reports_on c.under_way_laws.ensures.legal c.args.session c.args.number c.in-Ok.desk seats (done_of_book book) ends.0 c.in-Ok.lines c.in-Ok-told.report c.args.opened.items book.end (g.D.Disk.shows c.into_parts-disk.result.0)
-    ends.1.0 ends.1.1 c.in-Ok.ensures.lines
+    ends.1 ends.2 c.in-Ok.ensures.lines
     (c.in-Ok-told.ensures
-        ∙ ap (λ ns. report_told c.in-Ok.desk seats c.in-Ok.lines ns c.into_parts-disk.result.2 c.args.number c.args.session.drop_end) c.into_parts-disk.ensures.finished
-        ∙ ap (λ ns. report_told c.in-Ok.desk seats c.in-Ok.lines book.finished ns c.args.number c.args.session.drop_end) c.into_parts-disk.ensures.committed)
+    ∙ ap (λ ns. report_told c.in-Ok.desk seats c.in-Ok.lines ns c.into_parts-disk.result.2 c.args.number c.args.session.drop_end) c.into_parts-disk.ensures.finished
+    ∙ ap (λ ns. report_told c.in-Ok.desk seats c.in-Ok.lines book.finished ns c.args.number c.args.session.drop_end) c.into_parts-disk.ensures.committed)
     (c.open_and_run-ran.ensures.opening ∙ ap (λ (b : SessionBookState g.row.D.Denot). b.opening) c.new-book.ensures.book)
     c.in-Ok.ensures.end c.into_parts-disk.ensures.images
 

@@ -19,9 +19,7 @@ pub returns-clause-ends : goal.returns-clause-ends
 returns-clause-ends g c =
     let same = sym c.in_ok-end_log.ensures.done in (
       c.drive.new.databases,
-      (
-        subst (λ (s : ScriptSession). IsDriving s c.in_ok-desk-2.desk c.drive.new.seats.items (done_of_book c.end_log.new.book) c.drive.new.databases) c.of-of.ensures
-            (subst (λ (d : DoneNow). IsDriving c.of-of.result.value c.in_ok-desk-2.desk c.drive.new.seats.items d c.drive.new.databases) same c.in_ok-desk-2.ensures.driving),
-        subst (λ (d : DoneNow). IsAtEnd (session_seen c.in_ok-desk-2.desk c.drive.new.seats.items d c.drive.new.databases)) same c.in_ok-desk-2.ensures.end,
-      ),
+      subst (λ (s : ScriptSession). IsDriving s c.in_ok-desk-2.desk c.drive.new.seats.items (done_of_book c.end_log.new.book) c.drive.new.databases) c.of-of.ensures
+          (subst (λ (d : DoneNow). IsDriving c.of-of.result.value c.in_ok-desk-2.desk c.drive.new.seats.items d c.drive.new.databases) same c.in_ok-desk-2.ensures.driving),
+      subst (λ (d : DoneNow). IsAtEnd (session_seen c.in_ok-desk-2.desk c.drive.new.seats.items d c.drive.new.databases)) same c.in_ok-desk-2.ensures.end,
     )
