@@ -60,7 +60,8 @@ fn move_in<T: Tables, D: Disk, G: Gate>(
     ensures leads { OnOk result (LeadsTo None None
         (scene_of office.old notes.old (done_of_book book.old) databases.old)
         (scene_of office.new notes.new (done_of_book book.new) databases.new)) }
-    ensures less { OnOk result (left_to office.new.client notes.new + (beyond_memory - length book.new.finished)
+    ensures less { OnOk result
+        (left_to office.new.client notes.new + (beyond_memory - length book.new.finished)
         < left_to office.old.client notes.old + (beyond_memory - length book.old.finished)) }
     ensures runs { OnOk result (book.new.end ≡ Dropped) }
 
@@ -325,7 +326,8 @@ pub fn run_session<T: Tables, D: Disk, G: Gate>(
     requires gives { HoldsItems D.shows opened.log opened.items }
     requires faultless { failed_at opened.log ≡ None }
     requires within { is_within_limits opened.items ≡ true }
-    ensures reports { IfOk result.0 (λ report. ReportsOn session number opened.items report (D.shows result.1)) }
+    ensures reports { IfOk result.0 (λ report.
+        ReportsOn session number opened.items report (D.shows result.1)) }
     ensures stops { OnErr result.0 (StopsOn opened.items (D.shows result.1)) }
     ensures disk_fault { IsErrOf result.0 Halt.DiskFault
         → Rose (D.shows (disk_of opened.log)).faults (D.shows result.1).faults }

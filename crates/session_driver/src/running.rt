@@ -179,7 +179,8 @@ fn run_scripted<T: Tables, G: Gate>(
     requires on { (done : DoneNow) × StandsOn (Some (begun_run number (Scripted begun.body)))
         (scene_of office.old notes.old done databases.old) }
     requires holds { HoldsBegun office.old number (Scripted begun.body) }
-    ensures leads { IfOk result (λ trace. FinishLeads (Some (begun_run number (Scripted begun.body))) number trace
+    ensures leads { IfOk result (λ trace.
+        FinishLeads (Some (begun_run number (Scripted begun.body))) number trace
         office.old notes.old databases.old office.new notes.new databases.new) }
     ensures loggable { IfOk result (λ trace. is_commit trace ≡ true → CanBeLogged trace) }
 {

@@ -59,7 +59,8 @@ fn running<T: Tables>(
     requires none { version ≡ None → stores ≡ finite.empty }
     requires fits { FitsWhole (database_at version stores)
         (scripted_body parts.mode parts.schema parts.names parts.front parts.threw) }
-    requires loggable { IsLoggableBody (scripted_body parts.mode parts.schema parts.names parts.front parts.threw) }
+    requires loggable { IsLoggableBody
+        (scripted_body parts.mode parts.schema parts.names parts.front parts.threw) }
     ensures { IfOk result (λ tx. tx ≡ record {
       number = number;
       body = scripted_body parts.mode parts.schema parts.names parts.front parts.threw;
