@@ -1,16 +1,23 @@
 -- What is read of a source, and the status that it asks for.
-use Rattle.std.proofs.Common.{◌≡◌, ◌<◌, ◌≤◌, ◌∙◌, List, ℕ, Bool, true, false, if◌then◌else◌, length, Option, None, Some, Result, Ok, Err, refl, sym, ap, subst, IfSome, length-append, arith}
+use Rattle.std.proofs.Common.{◌≡◌, ◌∷◌, [], ◌<◌, ◌≤◌, ◌∙◌, List, ℕ, Bool, true, false, if◌then◌else◌, length, Option, None, Some, Result, Ok, Err, refl, sym, ap, subst, IfSome, length-append, arith}
 use Rattle.std.specs.Io.KnownBytes.{Consumes, IsAtEnd}
 use Rattle.std.specs.Str.{IsUtf8, is_utf8}
 use Rattle.std.proofs.KnownBytes.{Consumes-whole}
 use Rattle.std.proofs.lemmas.Str.{IsUtf8-from_is_utf8, is_utf8-from_IsUtf8}
-use Rattle.std.proofs.lemmas.Bool.{lt-leb, le-leb, ne_eqb}
+use Rattle.std.proofs.lemmas.Bool.{lt-leb, le-leb}
 use Rattle.serde_json.specs.Read.{read}
 use Rattle.script_reading.specs.Layers.{script_read}
 use Rattle.script_reading.specs.Places.{Reaches}
 use Rattle.script_reading.specs.declared.error.ScriptError.{ScriptError}
+use Rattle.disk_trait.specs.declared.area.Area.{Area}
+use Rattle.disk_trait.specs.Areas.{Areas}
+use Rattle.disk_trait.specs.Disk.{DiskView}
+use Rattle.item_changes.specs.Items.{Items}
+use Rattle.log_history.specs.Found.{found}
 use Rattle.script_statements.specs.declared.script.Script.{Script}
-use Rattle.script_runner.specs.Inputs.{reading_of, ReadsAs, ReadsTooMuch, IsOfOthers, status_of_reading, due_of}
+use Rattle.script_statements.specs.declared.script.ScriptSession.{ScriptSession}
+use Rattle.script_runner.specs.Inputs.{reading_of, ReadsAs, ReadsTooMuch, status_of_found, status_of_sessions, status_of_reading, due_of}
+use Rattle.script_runner.specs.Sessions.{SessionDone, AreReported}
 use Rattle.script_runner.specs.declared.limits.TheConstants.{MOST_SCRIPT_BYTES}
 use Rattle.script_runner.specs.declared.status.Status.TheVariants as status
 
@@ -39,19 +46,24 @@ read_within before after bytes input taken told = within after (subst (λ o. Con
     within None e = absurd e
     within (Some rest) e = let sizes = ap length e ∙ length-append bytes rest in omega arith
 
-module _ (before after : Option (List ℕ)) (input : List ℕ) (told : before ≡ Some input) where
-  pub due_too_long : ReadsTooMuch before after → due_of input ≡ status.TooLong
+module _ (before after : Option (List ℕ)) (input : List ℕ) (told : before ≡ Some input) (there : Result Items (Area × ℕ)) where
+  pub due_too_long : ReadsTooMuch before after → due_of there input ≡ status.TooLong
   due_too_long r =
       let within = read_within before after r.bytes input r.taken told in
       let many = r.many in
       rw (lt-leb (length input) MOST_SCRIPT_BYTES (omega arith)) refl
 
-  pub due_as : (reading : Result Script ℕ) → ReadsAs before after reading → due_of input ≡ status_of_reading reading
+  pub due_as : (reading : Result Script ℕ) → ReadsAs before after reading → due_of there input ≡ status_of_reading there reading
   due_as reading r =
       let same = read_whole before after r.bytes input r.taken r.to_end told in
       let few = subst (λ xs. length xs ≤ MOST_SCRIPT_BYTES) (sym same) r.few in
       let here : reading_of input ≡ reading = ap reading_of same ∙ r.reads in
       rw (le-leb (length input) MOST_SCRIPT_BYTES few, here) refl
 
-  pub due_not_built : (script : Script) → ReadsAs before after (Ok script) → IsOfOthers script → due_of input ≡ status.NotBuilt
-  due_not_built script r others = due_as (Ok script) r ∙ ap (λ b. if b then status.Done else status.NotBuilt) (ne_eqb (length script.sessions) 1 others)
+-- all sessions are reported, the first of them on the databases that were found as the disk came
+pub found_so : (entry : DiskView) (sessions : List ScriptSession) (done : List SessionDone) → AreReported entry None 1 sessions done → (areas : Areas) → entry.reads ≡ Some areas
+    → status_of_sessions (found areas) sessions ≡ status.Done
+found_so entry [] [] all areas told = refl
+found_so entry [] (d ∷ ds) all areas told = absurd all
+found_so entry (s ∷ ss) [] all areas told = absurd all
+found_so entry (s ∷ ss) (d ∷ ds) all areas told = ap status_of_found (all.0.found_so areas (all.0.given ∙ told))

@@ -1,10 +1,13 @@
 -- What a status says: whether something was written, the number that the program ends with, and its line.
---     IsUnwritten           nothing was written
+--     IsUnwritten           no session began, and nothing was written
 --     number_of             the number
+--     number_of_area        that of an area
 --     line_of               the line on standard error; where the report is written there is none
 use Rattle.std.specs.Prelude.{ℕ, List, [], ◌++◌, codes, decimal, ⊤}
+use Rattle.disk_trait.specs.declared.area.Area.{Area}
+use Rattle.disk_trait.specs.declared.area.Area.TheVariants.{Zero, One}
 use Rattle.script_runner.specs.declared.status.Status.{Status}
-use Rattle.script_runner.specs.declared.status.Status.TheVariants.{Done, Usage, TooLong, BadScript, ReadFault, WriteFault, NoMemory, NotBuilt}
+use Rattle.script_runner.specs.declared.status.Status.TheVariants.{Done, Usage, TooLong, BadScript, ReadFault, WriteFault, DiskFault, Damaged, NoMemory, NotBuilt}
 
 abbrev pub IsUnwritten : Status → Type 0
 IsUnwritten Done = ⊥
@@ -13,8 +16,10 @@ IsUnwritten TooLong = ⊤
 IsUnwritten (BadScript place) = ⊤
 IsUnwritten ReadFault = ⊤
 IsUnwritten WriteFault = ⊥
-IsUnwritten NoMemory = ⊤
-IsUnwritten NotBuilt = ⊤
+IsUnwritten DiskFault = ⊥
+IsUnwritten (Damaged area place) = ⊥
+IsUnwritten NoMemory = ⊥
+IsUnwritten NotBuilt = ⊥
 
 abbrev pub number_of : Status → ℕ
 number_of Done = 0
@@ -23,8 +28,14 @@ number_of TooLong = 3
 number_of (BadScript place) = 4
 number_of ReadFault = 5
 number_of WriteFault = 6
+number_of DiskFault = 7
+number_of (Damaged area place) = 8
 number_of NoMemory = 9
 number_of NotBuilt = 11
+
+abbrev pub number_of_area : Area → ℕ
+number_of_area Zero = 0
+number_of_area One = 1
 
 abbrev pub line_of : Status → List ℕ
 line_of Done = []
@@ -33,5 +44,7 @@ line_of TooLong = codes "idbrun: script too long"
 line_of (BadScript place) = codes "idbrun: bad script at " ++ decimal place
 line_of ReadFault = codes "idbrun: read fault"
 line_of WriteFault = codes "idbrun: write fault"
+line_of DiskFault = codes "idbrun: disk fault"
+line_of (Damaged area place) = codes "idbrun: damaged area " ++ decimal (number_of_area area) ++ codes " at " ++ decimal place
 line_of NoMemory = codes "idbrun: no memory"
 line_of NotBuilt = codes "idbrun: not built"

@@ -1,14 +1,16 @@
-// The whole program as one call: it reads a script, runs its session, and writes the report.
+// The whole program as one call: it reads a script, runs its sessions one after another on a disk, and writes their reports.
 //
-// The layer above uses `run_words`: what is written is the text of a legal report of the session that was read and nothing
-// else, and each status has its cause.
+// The layer above uses `run_words`: what is written are the texts of legal reports of the sessions that were read and nothing else, each
+// session begins with what the one before it left on the disk, and each status has its cause.
 #![tactic(auto)]
 
 mod limits;
 mod reporting;
 mod run;
 mod scripts;
+mod sessions;
 mod status;
+mod stops;
 #[cfg(test)]
 mod tests;
 

@@ -1,25 +1,25 @@
 // The call of the whole program.
-ghost use Rattle.std.specs.Prelude.{◌≡◌, ◌≤◌, ◌⊎◌, ◌↔◌, ◌+◌, ℕ, List, Some, Ok, Err, IsTrue, length};
-ghost use Rattle.std.specs.FinMap as finite;
+ghost use Rattle.std.specs.Prelude.{◌≡◌, ◌≤◌, ◌⊎◌, ◌↔◌, ◌+◌, ℕ, List, Some, None, Ok, Err, IsTrue, is_some};
 ghost use Rattle.std.specs.Io.KnownBytes.{Appends};
 ghost use Rattle.edge_traits.specs.Faults.{Rose};
-ghost use Rattle.edge_traits.specs.Streams.{ConsumesAtMost, AppendsFront};
-ghost use Rattle.item_changes.specs.Items.{Items};
-ghost use Rattle.report_lines.specs.ReportText.{text_of_report};
-ghost use Rattle.report_lines.specs.declared.reports.Report.{Report};
+ghost use Rattle.edge_traits.specs.Streams.{ConsumesAtMost};
+ghost use Rattle.disk_trait.specs.declared.area.Area.{Area};
+ghost use Rattle.disk_trait.specs.Disk.{WhereTold};
+ghost use Rattle.log_history.specs.Found.{found};
 ghost use Rattle.script_statements.specs.declared.script.Script.{Script};
-ghost use Rattle.script_statements.specs.declared.script.ScriptSession.{ScriptSession};
-ghost use Rattle.legal_sessions.specs.Legal.{IsLegalReport};
 ghost use Rattle.script_runner.specs.Commands.{IsRun, usage_text};
-ghost use Rattle.script_runner.specs.Inputs.{ReadsAs, ReadsTooMuch, one_session, IsOfOthers, due_of};
+ghost use Rattle.script_runner.specs.Inputs.{ReadsAs, ReadsTooMuch, due_of};
+ghost use Rattle.script_runner.specs.Sessions.{SessionDone, AreReported, LeavesAfter, last_run, texts_of, EndsBetween, EndsWithin, IsCutOff};
 ghost use Rattle.script_runner.specs.Statuses.{IsUnwritten};
 ghost use Rattle.script_runner.specs.declared.status.Status.TheVariants as status;
 
 use crate::limits::MOST_SCRIPT_BYTES;
-use crate::reporting::{NoReport, write_report};
-use crate::scripts::{NoScript, read_session};
+use crate::scripts::{NoScript, read_sessions};
+use crate::sessions::run_sessions;
+use crate::stops::Stop;
 use crate::{Ended, Status};
 use clone_values::Text;
+use disk_trait::Disk;
 use edge_traits::{Gate, Sink, Source};
 use std::alloc::Global;
 use std::sync::Wait;
@@ -44,13 +44,14 @@ fn usage(alloc: Global) -> Status
     }
 }
 
-/// Does all that the program does. `words` are those after its name; the one command is `run`. It reads a script of one session
-/// from `source`, runs the session on no databases, with `gate` told of each request before it runs, and then writes its report to
-/// `sink`, in one piece.
+/// Does all that the program does. `words` are those after its name; the one command is `run`. It reads a script from `source`, and runs
+/// its sessions one after another on `disk`: each opens what the one before it left there, with a restart of the disk between them.
+/// `gate` is told of each request before it runs. The report of each session is written to `sink` as it ends, in one piece.
 ///
 /// Refusals come in this order: `Usage`, before anything is read; `ReadFault` or `TooLong`, whichever is met first while reading;
-/// `BadScript`; `NotBuilt`; `WriteFault`. The disk is handed back as it came.
-pub fn run_words<R: Threads + Wait + Sync, S: Source, K: Sink, D, G: Gate + Sync>(
+/// `BadScript`; then for each session `DiskFault` or `Damaged` at its opening, `NotBuilt` where the disk fails within it, and
+/// `WriteFault`. With all of these but the last the reports of the sessions before are written whole. The disk is handed back.
+pub fn run_words<R: Threads + Wait + Sync, S: Source, K: Sink, D: Disk + Send, G: Gate + Sync>(
     rt: &R,
     alloc: Global,
     words: &[Text],
@@ -59,49 +60,77 @@ pub fn run_words<R: Threads + Wait + Sync, S: Source, K: Sink, D, G: Gate + Sync
     disk: D,
     gate: &G,
 ) -> Ended<D>
-    // The source was read to its end, and what was read is a script of one session; the text of a report was appended, and nothing
-    // else; and that is a legal report of the session, from no databases.
+    // The source was read to its end, and what was read is a script; each of its sessions has a legal report, from the databases
+    // that are found in what reads gave as it was opened; that may be left by the session before it; and the texts of these reports
+    // were appended, and nothing else. What a stop may leave now is what the last session may leave.
     ensures done { result.status ≡ Status.Done
-        → (session : ScriptSession) × (report : Report) × (closing : Items)
-        × ReadsAs (S.left source.old) (S.left source.new) (Ok (one_session session))
-        × Appends (K.held sink.old) (K.held sink.new) (text_of_report report)
-        × IsLegalReport session 1 finite.empty report closing }
+        → (script : Script) × (done : List SessionDone)
+        × ReadsAs (S.left source.old) (S.left source.new) (Ok script)
+        × AreReported (D.shows disk) None 1 script.sessions done
+        × LeavesAfter (D.shows disk) (last_run None done) (D.shows result.disk)
+        × Appends (K.held sink.old) (K.held sink.new) (texts_of done) }
 
-    // A front of that text was appended, and nothing else.
+    // Of the first sessions so many are reported so; a front of the last report was written, and all of those before it.
     ensures write_fault { result.status ≡ Status.WriteFault
-        → (session : ScriptSession) × (report : Report) × (closing : Items)
-        × ReadsAs (S.left source.old) (S.left source.new) (Ok (one_session session))
-        × AppendsFront (K.held sink.old) (K.held sink.new) (text_of_report report)
-        × IsLegalReport session 1 finite.empty report closing }
+        → (script : Script) × ReadsAs (S.left source.old) (S.left source.new) (Ok script)
+        × IsCutOff (D.shows disk) (D.shows result.disk) script.sessions (K.held sink.old) (K.held sink.new) }
 
-    // The cause of each other status.
+    // The first sessions are reported, and no other began; or one more began, and what a stop may leave is what it may leave.
+    ensures disk_fault { result.status ≡ Status.DiskFault
+        → (script : Script) × ReadsAs (S.left source.old) (S.left source.new) (Ok script)
+        × EndsBetween (D.shows disk) (D.shows result.disk) script.sessions
+        (K.held sink.old) (K.held sink.new) }
+    ensures damaged { (area : Area) (place : ℕ) → result.status ≡ status.Damaged area place
+        → (script : Script) × ReadsAs (S.left source.old) (S.left source.new) (Ok script)
+        × EndsBetween (D.shows disk) (D.shows result.disk) script.sessions
+        (K.held sink.old) (K.held sink.new) }
+    ensures not_built { result.status ≡ Status.NotBuilt
+        → (script : Script) × ReadsAs (S.left source.old) (S.left source.new) (Ok script)
+        × EndsWithin (D.shows disk) (D.shows result.disk) script.sessions
+        (K.held sink.old) (K.held sink.new) }
+    ensures no_memory { result.status ≡ Status.NoMemory
+        → ((sink.new ≡ sink.old) × (result.disk ≡ disk))
+        ⊎ ((script : Script) × ReadsAs (S.left source.old) (S.left source.new) (Ok script)
+        × (EndsBetween (D.shows disk) (D.shows result.disk) script.sessions
+        (K.held sink.old) (K.held sink.new)
+        ⊎ EndsWithin (D.shows disk) (D.shows result.disk) script.sessions
+        (K.held sink.old) (K.held sink.new))) }
+
+    // The cause of each status. Where the disk tells what it holds, it came damaged: no session leaves it so.
     ensures usage { (text : List ℕ) → result.status ≡ Status.Usage text → (text ≡ usage_text)
         × (IsRun words.now → ⊥) }
     ensures too_long { result.status ≡ Status.TooLong → ReadsTooMuch (S.left source.old) (S.left source.new) }
     ensures bad_script { (place : ℕ) → result.status ≡ status.BadScript place
         → ReadsAs (S.left source.old) (S.left source.new) (Err place) }
-    ensures not_built { result.status ≡ Status.NotBuilt
-        → (script : Script) × ReadsAs (S.left source.old) (S.left source.new) (Ok script)
-        × IsOfOthers script }
     ensures read_cause { result.status ≡ Status.ReadFault → Rose (S.faults source.old) (S.faults source.new) }
     ensures write_cause { result.status ≡ Status.WriteFault → Rose (K.faults sink.old) (K.faults sink.new) }
+    ensures disk_cause { result.status ≡ Status.DiskFault
+        → Rose (D.shows disk).faults (D.shows result.disk).faults }
+    ensures session_cause { result.status ≡ Status.NotBuilt
+        → Rose (D.shows disk).faults (D.shows result.disk).faults }
+    ensures damage { (area : Area) (place : ℕ) → result.status ≡ status.Damaged area place
+        → WhereTold (D.shows disk) (λ areas. found areas ≡ Err (area, place)) }
 
     // Other words come to nothing else, and nothing is read then.
     ensures refused { (IsRun words.now → ⊥) → (result.status ≡ Status.Usage usage_text)
         ⊎ (result.status ≡ Status.NoMemory) }
-    ensures untouched { (IsRun words.now → ⊥) → (source.new ≡ source.old) × (sink.new ≡ sink.old) }
+    ensures untouched { (IsRun words.now → ⊥)
+        → (source.new ≡ source.old) × (sink.new ≡ sink.old) × (result.disk ≡ disk) }
 
-    // Where nothing fails and memory lasts, each input gets its status.
+    // Where nothing fails and memory lasts, each input gets its status on a disk that tells what it holds.
     ensures complete { IsRun words.now → (input : List ℕ) → S.left source.old ≡ Some input
         → (Rose (S.faults source.old) (S.faults source.new) → ⊥)
         → (Rose (K.faults sink.old) (K.faults sink.new) → ⊥)
-        → (result.status ≡ due_of input) ⊎ (result.status ≡ Status.NoMemory) }
+        → (Rose (D.shows disk).faults (D.shows result.disk).faults → ⊥)
+        → WhereTold (D.shows disk) (λ areas. (result.status ≡ due_of (found areas) input)
+        ⊎ (result.status ≡ Status.NoMemory)) }
 
-    ensures unwritten { IsUnwritten result.status → sink.new ≡ sink.old }
+    ensures unwritten { IsUnwritten result.status → (sink.new ≡ sink.old) × (result.disk ≡ disk) }
     ensures taken { ConsumesAtMost (S.left source.old) (S.left source.new) (MOST_SCRIPT_BYTES + 1) }
-    ensures disk { result.disk ≡ disk }
+    ensures told { is_some (D.shows result.disk).reads ≡ is_some (D.shows disk).reads }
     ensures read_count { S.faults source.old ≤ S.faults source.new }
     ensures write_count { K.faults sink.old ≤ K.faults sink.new }
+    ensures disk_count { (D.shows disk).faults ≤ (D.shows result.disk).faults }
 {
     if !is_run(words) {
         return Ended {
@@ -109,8 +138,8 @@ pub fn run_words<R: Threads + Wait + Sync, S: Source, K: Sink, D, G: Gate + Sync
             disk,
         };
     }
-    let session = match read_session(alloc, source) {
-        Ok(session) => session,
+    let script = match read_sessions(alloc, source) {
+        Ok(script) => script,
         Err(NoScript::ReadFault) => return Ended {
             status: Status::ReadFault,
             disk,
@@ -123,25 +152,34 @@ pub fn run_words<R: Threads + Wait + Sync, S: Source, K: Sink, D, G: Gate + Sync
             status: Status::BadScript { place },
             disk,
         },
-        Err(NoScript::NotBuilt) => return Ended {
-            status: Status::NotBuilt,
-            disk,
-        },
         Err(NoScript::NoMemory) => return Ended {
             status: Status::NoMemory,
             disk,
         },
     };
-    match write_report(alloc, gate, session, sink) {
+    let (ran, disk) = run_sessions(alloc, gate, script.sessions, sink, disk);
+    match ran {
         Ok(()) => Ended {
             status: Status::Done,
             disk,
         },
-        Err(NoReport::WriteFault) => Ended {
+        Err(Stop::DiskFault) => Ended {
+            status: Status::DiskFault,
+            disk,
+        },
+        Err(Stop::Damaged { area, place }) => Ended {
+            status: Status::Damaged { area, place },
+            disk,
+        },
+        Err(Stop::NotBuilt) => Ended {
+            status: Status::NotBuilt,
+            disk,
+        },
+        Err(Stop::WriteFault) => Ended {
             status: Status::WriteFault,
             disk,
         },
-        Err(NoReport::NoMemory) => Ended {
+        Err(Stop::NoMemory) => Ended {
             status: Status::NoMemory,
             disk,
         },

@@ -1,14 +1,15 @@
 ghost use Rattle.std.specs.Prelude.{◌≡◌, ◌↔◌, IsTrue, Some};
-ghost use Rattle.script_runner.specs.Statuses.{number_of, line_of};
+ghost use Rattle.script_runner.specs.Statuses.{number_of, number_of_area, line_of};
 
 use clone_values::Text;
+use disk_trait::Area;
 use std::fmt;
 
-/// How a call of the program ended. Its `Display` is the line for standard error, without its line feed; it is empty where the report
-/// is written.
+/// How a call of the program ended. Its `Display` is the line for standard error, without its line feed; it is empty where all reports
+/// are written.
 #[derive(Debug, Drop)]
 pub enum Status {
-    /// The report is written.
+    /// The reports of all sessions are written.
     Done,
     /// The words aren't a command; the text says what is.
     Usage { text: Text },
@@ -19,11 +20,15 @@ pub enum Status {
     BadScript { place: u64 },
     /// The source failed.
     ReadFault,
-    /// The sink failed; what was written is a front of the report.
+    /// The sink failed; what was written are the reports of the sessions before, and a front of the last one.
     WriteFault,
-    /// Memory ran out.
+    /// The disk failed as it was started again, or as what it holds was opened for a session. The reports of those before are written.
+    DiskFault,
+    /// What the disk holds is damaged, first at this place of this area. The reports of the sessions before are written.
+    Damaged { area: Area, place: u64 },
+    /// Memory ran out. The reports of the sessions before are written.
     NoMemory,
-    /// The script has more than one session.
+    /// The disk failed within a session, which stopped there and has no report. Those before it have theirs.
     NotBuilt,
 }
 
@@ -39,12 +44,14 @@ impl Status {
             Status::BadScript { place: _ } => 4,
             Status::ReadFault => 5,
             Status::WriteFault => 6,
+            Status::DiskFault => 7,
+            Status::Damaged { area: _, place: _ } => 8,
             Status::NoMemory => 9,
             Status::NotBuilt => 11,
         }
     }
 
-    /// Whether the report is written.
+    /// Whether the reports of all sessions are written.
     pub fn is_done(&self) -> bool
         ensures { IsTrue result ↔ self.now ≡ Status.Done }
     {
@@ -69,9 +76,23 @@ impl fmt::Display for Status {
             Status::BadScript { place } => write!(f, "idbrun: bad script at {place}"),
             Status::ReadFault => write!(f, "idbrun: read fault"),
             Status::WriteFault => write!(f, "idbrun: write fault"),
+            Status::DiskFault => write!(f, "idbrun: disk fault"),
+            Status::Damaged { area, place } => {
+                let area = number_of_area(*area);
+                write!(f, "idbrun: damaged area {area} at {place}")
+            }
             Status::NoMemory => write!(f, "idbrun: no memory"),
             Status::NotBuilt => write!(f, "idbrun: not built"),
         }
+    }
+}
+
+fn number_of_area(area: Area) -> u8
+    ensures { result ≡ number_of_area area }
+{
+    match area {
+        Area::Zero => 0,
+        Area::One => 1,
     }
 }
 

@@ -1,6 +1,7 @@
-// The top call over tables: texts, refusals, and what is left of the source and the sink.
+// The top call over tables: texts, refusals, and what is left of the source and the sink, over a disk in memory.
 use crate::{Ended, run_words};
 use clone_values::Text;
+use disk_trait::{Area, Disk, DiskPlan, Image, MemoryDisk};
 use edge_traits::{Gate, MemorySink, MemorySource, OpenGate};
 use idb_base::{GREATEST_LENGTH, NoMemory};
 use std::alloc::Global;
@@ -24,6 +25,36 @@ const TWO_CLIENTS: &str =
 
 const TWO_SESSIONS: &str =
     r#"{"sessions":[{"clients":[{"blocks":{"main":[]}}]},{"clients":[{"blocks":{"main":[]}}]}]}"#;
+
+const TWO_REPORTS: &str =
+    "session 1\nopening\nclient 1\norder\nfinish\ncommit\nend flush\nsession 2\nopening\nclient 1\norder\nfinish\ncommit\nend flush\n";
+
+// Four commits, of which a strict one has all before it written; the last one is dropped at the session's end. The second session
+// asks for the keys.
+const FOUR_COMMITS: &str = r#"{"sessions":[{"end":"drop","clients":[{"blocks":{
+ "main":[{"op":"open","db":"d","upgrade":"up","success":"go"}],
+ "up":[{"op":"createObjectStore","store":"s"}],
+ "go":[
+  {"op":"let","name":"k","value":1},
+  {"op":"transaction","scope":["s"],"mode":"readwrite","durability":"relaxed","body":"b"},
+  {"op":"let","name":"k","value":2},
+  {"op":"transaction","scope":["s"],"mode":"readwrite","durability":"relaxed","body":"b"},
+  {"op":"let","name":"k","value":3},
+  {"op":"transaction","scope":["s"],"mode":"readwrite","durability":"strict","body":"b"},
+  {"op":"let","name":"k","value":4},
+  {"op":"transaction","scope":["s"],"mode":"readwrite","durability":"relaxed","body":"b"}],
+ "b":[{"op":"put","store":"s","key":{"$var":"k"},"value":0}]}}]},
+ {"clients":[{"blocks":{
+ "main":[{"op":"open","db":"d","upgrade":"up","success":"go"}],
+ "up":[],
+ "go":[{"op":"transaction","scope":["s"],"mode":"readonly","body":"b"}],
+ "b":[{"op":"getAllKeys","store":"s"}]}}]}]}"#;
+
+const FIRST: &str =
+    "session 1\nopening\nclient 1\nopen 1 upgrade 0 1 tx 1\ntx 1 complete\nopen 1 success 1\ntx 2 create readwrite relaxed\ntx 3 create readwrite relaxed\ntx 4 create readwrite strict\ntx 5 create readwrite relaxed\ntx 2 req 1 success 1\ntx 2 complete\ntx 3 req 1 success 2\ntx 3 complete\ntx 4 req 1 success 3\ntx 4 complete\ntx 5 req 1 success 4\ntx 5 complete\norder a1.1 e1 s1 f1 e1 t2.1 t3.1 t4.1 t5.1 s2 f2 s3 f3 s4 f4 s5 f5\nfinish 1 2 3 4 5\ncommit 1 2 3 4 5\nend drop\n";
+
+const SECOND: &str =
+    "session 2\nopening\nhas \"d\" 1\nclient 1\nopen 1 success 1\ntx 1 create readonly relaxed\ntx 1 req 1 success [1,2,3]\ntx 1 complete\norder a1.1 e1 t1.1 s1 f1\nfinish 1\ncommit\nend flush\n";
 
 const MISSPELT: &str =
     r#"{"sessions":[{"clients":[{"blocks":{"main":[{"op":"say","valu":1}]}}]}]}"#;
@@ -69,6 +100,16 @@ fn words_of(alloc: Global, texts: &[&str]) -> Result<Vec<Text>, NoMemory> {
     Ok(words)
 }
 
+// A disk with two blank areas, whose calls of these numbers fail. A restart finds what was synced.
+fn blank(alloc: Global, failing_calls: &[u64]) -> Result<MemoryDisk, Fail> {
+    let plan = DiskPlan {
+        fail_at: Vec::from_slice(alloc, failing_calls)?,
+        stop_after: None,
+        image: Image::Dropped,
+    };
+    Ok(MemoryDisk::with_room(alloc, 100_000, 1000, plan)?)
+}
+
 // The number of the status, the line, and what was written.
 fn run_on<R: Threads + Wait + Sync + Abort>(
     rt: &R,
@@ -77,6 +118,7 @@ fn run_on<R: Threads + Wait + Sync + Abort>(
     input: &[u8],
     failing_reads: &[u64],
     room: usize,
+    disk: MemoryDisk,
 ) -> Result<(u8, String, String), Fail> {
     let words = words_of(alloc, texts)?;
     let mut source = MemorySource::new(
@@ -84,16 +126,15 @@ fn run_on<R: Threads + Wait + Sync + Abort>(
         Vec::from_slice(alloc, failing_reads)?,
     );
     let mut sink = MemorySink::with_room(alloc, room, Vec::new(alloc))?;
-    let Ended { status, disk } = run_words(
+    let Ended { status, disk: _ } = run_words(
         rt,
         alloc,
         words.as_slice(),
         &mut source,
         &mut sink,
-        7u8,
+        disk,
         &OpenGate,
     );
-    assert_eq!(rt; disk, 7, "the disk comes back as it was");
     let line = format!(in alloc; "{status}")?;
     let text = String::from_utf8_lossy(alloc, sink.bytes())?;
     Ok((status.number(), line, text))
@@ -107,9 +148,18 @@ fn prints_the_report(rt: HostRuntime) -> Result<(), Fail> {
             TWO_CLIENTS,
             "session 1\nopening\nclient 1\nsay 1\nclient 2\norder\nfinish\ncommit\nend drop\n",
         ),
+        (TWO_SESSIONS, TWO_REPORTS),
     ];
     for (input, report) in cases {
-        let (status, line, text) = run_on(&rt, rt.alloc(), &["run"], input.as_bytes(), &[], 4096)?;
+        let (status, line, text) = run_on(
+            &rt,
+            rt.alloc(),
+            &["run"],
+            input.as_bytes(),
+            &[],
+            4096,
+            blank(rt.alloc(), &[])?,
+        )?;
         assert_eq!(rt; (status, line.as_str()), (0, ""), "{input}");
         assert_eq!(rt; text.as_str(), report, "{input}");
     }
@@ -138,7 +188,14 @@ fn refuses_and_fails(rt: HostRuntime) -> Result<(), Fail> {
             "",
         ),
         (MISSPELT, &[], 4096, 4, "idbrun: bad script at 8", ""),
-        (TWO_SESSIONS, &[], 4096, 11, "idbrun: not built", ""),
+        (
+            TWO_SESSIONS,
+            &[],
+            67,
+            6,
+            "idbrun: write fault",
+            "session 1\nopening\nclient 1\norder\nfinish\ncommit\nend flush\nsession 2\n",
+        ),
         (SCRIPT, &[1], 4096, 5, "idbrun: read fault", ""),
         (SCRIPT, &[2], 4096, 5, "idbrun: read fault", ""),
         (SCRIPT, &[], 10, 6, "idbrun: write fault", "session 1\n"),
@@ -152,6 +209,7 @@ fn refuses_and_fails(rt: HostRuntime) -> Result<(), Fail> {
             input.as_bytes(),
             failing_reads,
             room,
+            blank(rt.alloc(), &[])?,
         )?;
         assert_eq!(rt; (found, said.as_str()), (number, line), "{input}");
         assert_eq!(rt; written.as_str(), text, "{input}");
@@ -162,7 +220,15 @@ fn refuses_and_fails(rt: HostRuntime) -> Result<(), Fail> {
 #[test]
 fn refuses_a_script_that_is_too_long(rt: HostRuntime) -> Result<(), Fail> {
     let input = vec![in rt.alloc(); b' '; 16_777_217]?;
-    let (found, said, written) = run_on(&rt, rt.alloc(), &["run"], input.as_slice(), &[], 4096)?;
+    let (found, said, written) = run_on(
+        &rt,
+        rt.alloc(),
+        &["run"],
+        input.as_slice(),
+        &[],
+        4096,
+        blank(rt.alloc(), &[])?,
+    )?;
     assert_eq!(rt; (found, said.as_str()), (3, "idbrun: script too long"));
     assert_eq!(rt; written.as_str(), "");
     Ok(())
@@ -172,8 +238,72 @@ fn refuses_a_script_that_is_too_long(rt: HostRuntime) -> Result<(), Fail> {
 fn takes_the_one_word(rt: HostRuntime) -> Result<(), Fail> {
     let cases: [&[&str]; 4] = [&[], &["x"], &["run", "x"], &["run", "--drivers", "0"]];
     for texts in cases {
-        let (found, said, written) = run_on(&rt, rt.alloc(), texts, SCRIPT.as_bytes(), &[], 4096)?;
+        let (found, said, written) = run_on(
+            &rt,
+            rt.alloc(),
+            texts,
+            SCRIPT.as_bytes(),
+            &[],
+            4096,
+            blank(rt.alloc(), &[])?,
+        )?;
         assert_eq!(rt; (found, said.as_str()), (2, "idbrun: usage: idbrun run"));
+        assert_eq!(rt; written.as_str(), "");
+    }
+    Ok(())
+}
+
+// The eleven calls of the first opening are followed by the four of the upgrade, which is strict, and the four of the strict commit;
+// the twentieth is the restart.
+#[test]
+fn opens_what_the_session_before_left(rt: HostRuntime) -> Result<(), Fail> {
+    let cases: [(&[u64], u8, &str, &[&str]); 6] = [
+        (&[], 0, "", &[FIRST, SECOND]),
+        (&[3], 7, "idbrun: disk fault", &[]),
+        (&[12], 11, "idbrun: not built", &[]),
+        (&[17], 11, "idbrun: not built", &[]),
+        (&[20], 7, "idbrun: disk fault", &[FIRST]),
+        (&[21], 7, "idbrun: disk fault", &[FIRST]),
+    ];
+    for (failing_calls, number, line, texts) in cases {
+        let (found, said, written) = run_on(
+            &rt,
+            rt.alloc(),
+            &["run"],
+            FOUR_COMMITS.as_bytes(),
+            &[],
+            4096,
+            blank(rt.alloc(), failing_calls)?,
+        )?;
+        assert_eq!(rt; (found, said.as_str()), (number, line), "{failing_calls:?}");
+        assert_eq!(rt;
+            written.as_str(),
+            texts.concat(rt.alloc())?.as_str(),
+            "{failing_calls:?}"
+        );
+    }
+    Ok(())
+}
+
+#[test]
+fn says_where_the_disk_is_damaged(rt: HostRuntime) -> Result<(), Fail> {
+    let cases: [(&[u8], &str); 2] = [
+        (b"\xa5IDBLOG02", "idbrun: damaged area 0 at 1"),
+        (b"\xa5IDBLOG01\x00\x00", "idbrun: damaged area 0 at 9"),
+    ];
+    for (bytes, line) in cases {
+        let mut disk = blank(rt.alloc(), &[])?;
+        disk.write_at(Area::Zero, 0, bytes)?;
+        let (found, said, written) = run_on(
+            &rt,
+            rt.alloc(),
+            &["run"],
+            TWO_SESSIONS.as_bytes(),
+            &[],
+            4096,
+            disk,
+        )?;
+        assert_eq!(rt; (found, said.as_str()), (8, line));
         assert_eq!(rt; written.as_str(), "");
     }
     Ok(())
@@ -197,7 +327,7 @@ fn tells_the_gate_of_each_request(rt: HostRuntime) -> Result<(), Fail> {
         words.as_slice(),
         &mut source,
         &mut sink,
-        (),
+        blank(rt.alloc(), &[])?,
         &gate,
     );
     assert!(rt; ended.status.is_done());

@@ -1,9 +1,10 @@
-// Runs the scripts whose files are its arguments, each by itself, and writes their reports.
+// Runs the scripts whose files are its arguments, each on a disk of its own in memory, and writes their reports.
 //
 // The gate runs it on the scripts of its folder `data`. What it must write was derived from the standard's algorithms by hand.
 #![tactic(auto)]
 
 use clone_values::Text;
+use disk_trait::{DiskPlan, Image, MemoryDisk};
 use edge_traits::{MemorySink, MemorySource, OpenGate};
 use script_runner::{Ended, run_words};
 use std::alloc::Global;
@@ -14,10 +15,26 @@ use std::sync::Wait;
 use std::thread::Threads;
 use std::{env, fs};
 
-/// The room for a report, in bytes.
+/// The room for the reports of a script, in bytes.
 const ROOM: usize = 1_048_576;
 
-/// The report of the script in this file, behind a line with the file's name; a script that is refused has its status there.
+/// The room for what a script writes to its disk, in bytes.
+const DISK_ROOM: u64 = 1_048_576;
+
+/// How many calls a script may make of its disk.
+const DISK_CALLS: u64 = 10_000;
+
+/// A disk of two blank areas, which doesn't fail.
+fn blank(alloc: Global) -> Option<MemoryDisk> {
+    let plan = DiskPlan {
+        fail_at: Vec::new(alloc),
+        stop_after: None,
+        image: Image::Kept,
+    };
+    MemoryDisk::with_room(alloc, DISK_ROOM, DISK_CALLS, plan).ok()
+}
+
+/// The reports of the script in this file, behind a line with the file's name; a script that is refused has its status there.
 fn report<R: Files + Threads + Wait + Sync + AllocGlobal>(
     rt: &R,
     alloc: Global,
@@ -27,13 +44,13 @@ fn report<R: Files + Threads + Wait + Sync + AllocGlobal>(
     let word = Text::copy_of(alloc, "run").ok()?;
     let mut source = MemorySource::new(bytes, Vec::new(alloc));
     let mut sink = MemorySink::with_room(alloc, ROOM, Vec::new(alloc)).ok()?;
-    let Ended { status, disk: () } = run_words(
+    let Ended { status, disk: _ } = run_words(
         rt,
         alloc,
         &[word],
         &mut source,
         &mut sink,
-        (),
+        blank(alloc)?,
         &OpenGate,
     );
     let head = if status.is_done() {

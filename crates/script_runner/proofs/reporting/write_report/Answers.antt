@@ -5,12 +5,8 @@ use Rattle.script_runner.proofs.reporting.write_report.Goals as goal
 
 pub returns-in-Ok-write_all-clause-done : goal.returns-in-Ok-write_all-clause-done
 returns-in-Ok-write_all-clause-done g c =
-    let legal = c.in-Ok.ensures.legal in
-    let text = c.as_slice.ensures.value ∙ c.in-Ok-report_text.ensures in
-    (c.in-Ok.report, legal.0, legal.1, subst (Appends (g.K.Sink.held c.args.sink.now) (g.K.Sink.held c.write_all.new.sink)) text c.in-Ok-write_all.ensures.whole)
+    subst (Appends (g.K.Sink.held c.args.sink.now) (g.K.Sink.held c.write_all.new.sink)) (c.as_slice.ensures.value ∙ c.in-Ok.ensures) c.in-Ok-write_all.ensures.whole
 
 pub returns-clause-front : goal.returns-clause-front
 returns-clause-front g c failed =
-    let legal = c.in-Ok.ensures.legal in
-    let text = c.as_slice.ensures.value ∙ c.in-Ok-report_text.ensures in
-    (c.in-Ok.report, legal.0, legal.1, subst (AppendsFront (g.K.Sink.held c.args.sink.now) (g.K.Sink.held c.write_all.new.sink)) text c.in-Err-write_all.ensures.front)
+    subst (AppendsFront (g.K.Sink.held c.args.sink.now) (g.K.Sink.held c.write_all.new.sink)) (c.as_slice.ensures.value ∙ c.in-Ok.ensures) c.in-Err-write_all.ensures.front

@@ -1,0 +1,147 @@
+#!/usr/bin/env python3
+"""Runs the built program on real files under faults and stops, outside the gate.
+
+    docs/real_stops.py faults      each call of a kind fails once (strace -f -e inject=..), for every call of a run of two sessions
+    docs/real_stops.py kills [N]   N runs (200) of strict commits, each ended by SIGKILL at a random moment
+    docs/real_stops.py syncs       how many syncs a strict commit takes, counted by strace
+
+After each, a run of a reading script in the same folder has to find the keys 1 to m of the store, for some m, and every
+strict commit of a session whose report was printed. It ends with 1 where one of them doesn't. strace has to be there for
+`faults` and `syncs`."""
+import json
+import os
+import random
+import re
+import signal
+import subprocess
+import sys
+import tempfile
+import time
+
+PROGRAM = os.path.dirname(os.path.dirname(os.path.realpath(__file__))) + "/crates/idbrun/out/current/idbrun"
+CALLS = ["pwrite64", "fdatasync", "fsync", "ftruncate", "pread64"]
+UP = [{"op": "createObjectStore", "store": "s"}]
+
+
+def puts(pairs):
+    """The block `go` of one session: a transaction for each key, with this durability, and its body."""
+    blocks = {}
+    go = []
+    for key, durability in pairs:
+        blocks[f"b{key}"] = [{"op": "put", "store": "s", "key": key, "value": 0}]
+        go.append({"op": "transaction", "scope": ["s"], "mode": "readwrite", "durability": durability, "body": f"b{key}"})
+    return {"main": [{"op": "open", "db": "d", "upgrade": "up", "success": "go"}], "up": UP, "go": go, **blocks}
+
+
+def script(sessions, ends):
+    return json.dumps({"sessions": [{"clients": [{"blocks": it}], "end": end} for it, end in zip(sessions, ends)]}).encode()
+
+
+READING = script([{
+    "main": [{"op": "open", "db": "d", "upgrade": "up", "success": "go"}], "up": UP,
+    "go": [{"op": "transaction", "scope": ["s"], "mode": "readonly", "body": "b"}],
+    "b": [{"op": "getAllKeys", "store": "s"}]}], ["flush"])
+
+
+def found(folder):
+    """The keys that a run of the reading script finds."""
+    ran = subprocess.run([PROGRAM, "run"], input=READING, cwd=folder, capture_output=True)
+    text = ran.stdout.decode()
+    keys = re.search(r"^tx \d+ req 1 success \[(.*)\]$", text, re.M)
+    if ran.returncode or not keys:
+        return None, f"the reading run ended with {ran.returncode}: {ran.stderr.decode().strip()}\n{text}"
+    return [int(it) for it in keys[1].split(",") if it], ""
+
+
+def is_front(keys, least):
+    return keys == list(range(1, len(keys) + 1)) and len(keys) >= least
+
+
+def judge(folder, least, what):
+    keys, why = found(folder)
+    if keys is None or not is_front(keys, least):
+        print(f"{what}: found {keys}, and at least the keys 1 to {least} were to be there. {why}")
+        return False
+    return True
+
+
+def faults():
+    pairs = [[(1, "relaxed"), (2, "relaxed"), (3, "strict"), (4, "relaxed")], [(5, "strict"), (6, "strict")]]
+    given = script([puts(it) for it in pairs], ["flush", "flush"])
+    strict = [3, 6]  # the greatest strict key of each session
+    well, ends = True, {}
+    for call in CALLS:
+        k = 0
+        while True:
+            k += 1
+            with tempfile.TemporaryDirectory() as folder:
+                ran = subprocess.run(["strace", "-f", "-qq", "-o", f"{folder}/trace", "-e", f"trace={call}", "-e", f"inject={call}:error=EIO:when={k}",
+                                      PROGRAM, "run"], input=given, cwd=folder, capture_output=True)
+                hit = "(INJECTED)" in open(f"{folder}/trace").read()
+                reports = len(re.findall(rb"^session \d+$", ran.stdout, re.M))
+                well &= judge(folder, strict[reports - 1] if reports else 0, f"{call}, failing call {k}")
+                if hit:
+                    ends.setdefault(call, []).append(ran.returncode)
+                elif ran.returncode:
+                    print(f"{call}: no call failed, and the run ended with {ran.returncode}")
+                    well = False
+            if not hit:
+                break
+    for call in CALLS:
+        print(f"{call}: {len(ends.get(call, []))} calls failed, one at a time; the runs ended with {' '.join(map(str, ends.get(call, [])))}")
+    return well
+
+
+def kills(number):
+    each, sessions = 25, 16
+    pairs = [[(at * each + n + 1, "strict") for n in range(each)] for at in range(sessions)]
+    given = script([puts(it) for it in pairs], ["flush"] * sessions)
+    with tempfile.TemporaryDirectory() as folder:
+        began = time.time()
+        ran = subprocess.run([PROGRAM, "run"], input=given, cwd=folder, capture_output=True)
+        whole = time.time() - began
+        if ran.returncode or not judge(folder, each * sessions, "the whole run"):
+            return False
+    well, counts = True, []
+    for turn in range(number):
+        with tempfile.TemporaryDirectory() as folder:
+            with open(f"{folder}/out", "wb") as out:
+                started = subprocess.Popen([PROGRAM, "run"], stdin=subprocess.PIPE, stdout=out, stderr=subprocess.DEVNULL, cwd=folder)
+                started.stdin.write(given)
+                started.stdin.close()
+                time.sleep(random.random() * whole)
+                started.send_signal(signal.SIGKILL)
+                started.wait()
+            # a report is there whole where its last line is
+            reports = len(re.findall(rb"^end flush$", open(f"{folder}/out", "rb").read(), re.M))
+            counts.append(reports)
+            well &= judge(folder, each * reports, f"kill {turn + 1}")
+    print(f"{number} runs of {sessions} sessions with {each} strict commits were killed; a whole run takes {whole:.2f} s; whole reports printed: {min(counts)} to {max(counts)}")
+    return well
+
+
+def syncs():
+    counted = []
+    for n in (10, 110):
+        given = script([puts([(key + 1, "strict") for key in range(n)])], ["flush"])
+        with tempfile.TemporaryDirectory() as folder:
+            subprocess.run(["strace", "-f", "-qq", "-o", f"{folder}/trace", "-e", "trace=fdatasync,fsync", PROGRAM, "run"], input=given, cwd=folder, capture_output=True)
+            counted.append(sum("sync(" in line for line in open(f"{folder}/trace")))
+    print(f"10 strict commits: {counted[0]} syncs; 110: {counted[1]}; {(counted[1] - counted[0]) / 100} a commit")
+    return counted[1] - counted[0] == 200
+
+
+def main():
+    if len(sys.argv) < 2 or sys.argv[1] not in ("faults", "kills", "syncs"):
+        print(__doc__)
+        return 2
+    if sys.argv[1] == "kills":
+        well = kills(int(sys.argv[2]) if len(sys.argv) > 2 else 200)
+    else:
+        well = {"faults": faults, "syncs": syncs}[sys.argv[1]]()
+    print("all well" if well else "NOT WELL")
+    return 0 if well else 1
+
+
+if __name__ == "__main__":
+    sys.exit(main())
