@@ -1,5 +1,5 @@
 -- What is read of a source, and the status that it asks for.
-use Rattle.std.proofs.Common.{◌≡◌, ◌∷◌, [], ◌<◌, ◌≤◌, ◌∙◌, List, ℕ, Bool, true, false, if◌then◌else◌, length, Option, None, Some, Result, Ok, Err, refl, sym, ap, subst, IfSome, length-append, arith}
+use Rattle.std.proofs.Common.{◌≡◌, ◌∷◌, [], ◌≤◌, ◌∙◌, List, ℕ, Bool, true, false, if◌then◌else◌, length, Option, None, Some, Result, refl, sym, ap, subst, IfSome, length-append, arith}
 use Rattle.std.specs.Io.KnownBytes.{Consumes, IsAtEnd}
 use Rattle.std.specs.Str.{IsUtf8, is_utf8}
 use Rattle.std.proofs.KnownBytes.{Consumes-whole}

@@ -1,9 +1,8 @@
 -- One more session is reported.
 use Rattle.std.proofs.Common.{◌≡◌, inl, inr, ℕ, ◌+◌, List, [], ◌∷◌, ◌++◌, length, Option, None, Some, refl, subst, arith}
-use Rattle.disk_trait.specs.Disk.{DiskView, WhereTold, EachImage, NoNewImage}
-use Rattle.disk_trait.specs.Areas.{Areas}
+use Rattle.disk_trait.specs.Disk.{DiskView, WhereTold, NoNewImage}
 use Rattle.script_statements.specs.declared.script.ScriptSession.{ScriptSession}
-use Rattle.script_runner.specs.Sessions.{SessionRun, SessionDone, IsLeftBy, GivenAfter, LeavesAfter, BeginsAfter, IsReported, AreReported, last_run, texts_of}
+use Rattle.script_runner.specs.Sessions.{SessionRun, SessionDone, GivenAfter, LeavesAfter, BeginsAfter, IsReported, AreReported, last_run}
 
 pub one_more : (entry : DiskView) (before : Option SessionRun) (n m : ℕ) (front : List ScriptSession) (dones : List SessionDone) (session : ScriptSession) (done : SessionDone)
     → m ≡ n + length front → AreReported entry before n front dones → BeginsAfter entry (last_run before dones) done.run → IsReported m session done

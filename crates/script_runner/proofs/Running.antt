@@ -1,5 +1,5 @@
 -- The sessions so far, and one more.
-use Rattle.std.proofs.Common.{◌≡◌, ◌⊎◌, inl, inr, ℕ, suc, ◌+◌, ◌<◌, ◌≤◌, true, is_some, Result, List, [], ◌∷◌, ◌++◌, length, take, Option, None, Some, Ok, Err, refl, sym, ap, subst, ◌∙◌, arith, append_assoc, append-nil, length-append}
+use Rattle.std.proofs.Common.{◌≡◌, inl, inr, ℕ, ◌+◌, ◌≤◌, true, is_some, Result, List, [], ◌∷◌, ◌++◌, length, Option, None, Some, Ok, Err, refl, sym, ap, subst, ◌∙◌, arith, append_assoc, length-append}
 use Rattle.std.specs.Io.KnownBytes.{Appends}
 use Rattle.std.proofs.KnownBytes.{Appends-nil, Appends-trans}
 use Rattle.std.proofs.lemmas.List.{flat_map_more}
@@ -7,10 +7,9 @@ use Rattle.edge_traits.specs.Faults.{Rose}
 use Rattle.edge_traits.specs.Streams.{AppendsFront}
 use Rattle.disk_trait.specs.declared.area.Area.{Area}
 use Rattle.disk_trait.specs.Areas.{Areas}
-use Rattle.disk_trait.specs.Disk.{DiskView, WhereTold, EachImage, NoNewImage, ComesFrom}
+use Rattle.disk_trait.specs.Disk.{DiskView, WhereTold, NoNewImage}
 use Rattle.item_changes.specs.Items.{Items}
 use Rattle.log_history.specs.Found.{found}
-use Rattle.idb_recovery.specs.Recovered.{SameAnswer}
 use Rattle.idb_recovery.specs.declared.error.RecoverError.{RecoverError}
 use Rattle.idb_recovery.specs.declared.error.RecoverError.TheVariants as error
 use Rattle.session_driver.specs.Ending.{own_log_end, ReportsOn, StopsOn}
@@ -19,7 +18,7 @@ use Rattle.session_driver.specs.declared.entering.Halt.TheVariants as halt
 use Rattle.report_lines.specs.ReportText.{text_of_report}
 use Rattle.report_lines.specs.declared.reports.Report.{Report}
 use Rattle.script_statements.specs.declared.script.ScriptSession.{ScriptSession}
-use Rattle.script_runner.specs.Sessions.{SessionRun, SessionDone, IsLeftBy, GivenAfter, LeavesAfter, BeginsAfter, IsReported, AreReported, last_run, texts_of, StopsBetween, StopsWithin, EndsBetween, EndsWithin, IsCutOff}
+use Rattle.script_runner.specs.Sessions.{SessionRun, SessionDone, IsLeftBy, GivenAfter, LeavesAfter, BeginsAfter, AreReported, last_run, texts_of, EndsBetween, EndsWithin, IsCutOff}
 use Rattle.script_runner.specs.Running.{IsOpenedOn, IsUnopened, RanOn, StopsIn, StopsBy, EndsBy, RanSoFar}
 use Rattle.script_runner.specs.Stops.{stop_of_recovery, stop_of_halt}
 use Rattle.script_runner.specs.declared.stops.Stop.{Stop}

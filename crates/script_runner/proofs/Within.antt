@@ -1,5 +1,5 @@
 -- What the batches of a log give is within the limits.
-use Rattle.std.proofs.Common.{◌≡◌, ◌&&◌, Bool, true, false, List, [], ◌∷◌, Option, None, Some, Result, Ok, Err, length, map, nat_le, refl, sym, ap, ◌∙◌, ℕ, arith}
+use Rattle.std.proofs.Common.{◌≡◌, ◌&&◌, Bool, true, false, List, [], ◌∷◌, Option, None, Some, Result, Ok, length, map, nat_le, refl, sym, ap, ◌∙◌, ℕ, arith}
 use Rattle.std.proofs.lemmas.Option.{same_Some, cond_some}
 use Rattle.std.specs.List.{list_all}
 use Rattle.std.specs.FinMap as finite

@@ -253,19 +253,28 @@ fn takes_the_one_word(rt: HostRuntime) -> Result<(), Fail> {
     Ok(())
 }
 
+// The first so many of the reports of both sessions.
+fn first_reports(alloc: Global, count: usize) -> Result<String, Fail> {
+    match count {
+        0 => Ok(String::new(alloc)),
+        1 => Ok(String::from_str(alloc, FIRST)?),
+        _ => Ok(format!(in alloc; "{FIRST}{SECOND}")?),
+    }
+}
+
 // The eleven calls of the first opening are followed by the four of the upgrade, which is strict, and the four of the strict commit;
 // the twentieth is the restart.
 #[test]
 fn opens_what_the_session_before_left(rt: HostRuntime) -> Result<(), Fail> {
-    let cases: [(&[u64], u8, &str, &[&str]); 6] = [
-        (&[], 0, "", &[FIRST, SECOND]),
-        (&[3], 7, "idbrun: disk fault", &[]),
-        (&[12], 11, "idbrun: not built", &[]),
-        (&[17], 11, "idbrun: not built", &[]),
-        (&[20], 7, "idbrun: disk fault", &[FIRST]),
-        (&[21], 7, "idbrun: disk fault", &[FIRST]),
+    let cases: [(&[u64], u8, &str, usize); 6] = [
+        (&[], 0, "", 2),
+        (&[3], 7, "idbrun: disk fault", 0),
+        (&[12], 11, "idbrun: not built", 0),
+        (&[17], 11, "idbrun: not built", 0),
+        (&[20], 7, "idbrun: disk fault", 1),
+        (&[21], 7, "idbrun: disk fault", 1),
     ];
-    for (failing_calls, number, line, texts) in cases {
+    for (failing_calls, number, line, count) in cases {
         let (found, said, written) = run_on(
             &rt,
             rt.alloc(),
@@ -276,11 +285,8 @@ fn opens_what_the_session_before_left(rt: HostRuntime) -> Result<(), Fail> {
             blank(rt.alloc(), failing_calls)?,
         )?;
         assert_eq!(rt; (found, said.as_str()), (number, line), "{failing_calls:?}");
-        assert_eq!(rt;
-            written.as_str(),
-            texts.concat(rt.alloc())?.as_str(),
-            "{failing_calls:?}"
-        );
+        let wanted = first_reports(rt.alloc(), count)?;
+        assert_eq!(rt; written.as_str(), wanted.as_str(), "{failing_calls:?}");
     }
     Ok(())
 }

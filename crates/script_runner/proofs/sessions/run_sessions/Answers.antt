@@ -1,4 +1,4 @@
-use Rattle.std.proofs.Common.{◌≡◌, ◌≤◌, ◌+◌, ◌∙◌, ◌∷◌, Err, List, refl, sym, ap, subst, eq-eqb, inl, arith}
+use Rattle.std.proofs.Common.{◌∙◌, List, refl, ap, subst, eq-eqb, inl, arith}
 use Rattle.script_statements.specs.declared.script.ScriptSession.{ScriptSession}
 use Rattle.script_runner.specs.Running.{RanSoFar}
 use Rattle.script_runner.proofs.Running.{none_ran, stands_still, ran_more, have_stopped, rose_since, same_Err}
