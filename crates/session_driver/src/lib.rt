@@ -16,6 +16,3 @@ mod serving;
 
 pub use driver::run_session;
 pub use entering::Halt;
-
-#[cfg(test)]
-mod tests;

@@ -178,7 +178,8 @@ fn run(
     }
     turns(&mut tx, notes, said)?;
     let _ = write!(said, "{}", notes.len());
-    if let Some(schema) = tx.finish(alloc, databases)?.kept {
+    let TxEnd { kept, .. } = tx.finish(alloc, databases)?;
+    if let Some(schema) = kept {
         let _ = write!(said, " keeps {}", schema.len());
     }
     Ok(())
