@@ -4,10 +4,12 @@
     docs/real_stops.py faults      each call of a kind fails once (strace -f -e inject=..), for every call of a run of two sessions
     docs/real_stops.py kills [N]   N runs (200) of strict commits, each ended by SIGKILL at a random moment
     docs/real_stops.py syncs       how many syncs a strict commit takes, counted by strace
+    docs/real_stops.py areas       the bytes that the first example leaves, and what is found in files that were cut or changed by hand
 
 After each, a run of a reading script in the same folder has to find the keys 1 to m of the store, for some m, and every
-strict commit of a session whose report was printed. It ends with 1 where one of them doesn't. strace has to be there for
-`faults` and `syncs`."""
+strict commit of a session whose report was printed. It ends with 1 where one of them doesn't. The program has to be built
+(one call of ./idbrun builds it), and strace to be there for `faults` and `syncs`. A run that ends with 127 met the fault as
+the system loaded it."""
 import json
 import os
 import random
@@ -131,14 +133,51 @@ def syncs():
     return counted[1] - counted[0] == 200
 
 
+# the head, a batch of the upgrade and one of the put, each behind its gate, and the closed gate
+AREA = bytes.fromhex("a5 4944424c4f473031 0000000000000001 a5 000000000000002b 00000001 0000000000000001 00000002 31 00000001 64 0000000000000001"
+                     "33 00000001 64 00000001 73 40 00 a5 000000000000002d 00000001 0000000000000002 00000001 37 00000001 64 00000001 73"
+                     "210000000000000001 040000000000000007 00")
+
+# what is made of it, and the keys that are found, or the line on standard error
+FILES = [
+    ("cut to its first byte", AREA[:1], []),
+    ("cut to the first gate, which is open", AREA[:17] + b"\xa5", []),
+    ("another byte of the head", AREA[:1] + b"\x4a" + AREA[2:], "idbrun: damaged area 0 at 1"),
+    ("cut before the first gate", AREA[:17], "idbrun: damaged area 0 at 17"),
+    ("cut within the first batch", AREA[:60], "idbrun: damaged area 0 at 18"),
+    ("cut within the second batch", AREA[:100], "idbrun: damaged area 0 at 70"),
+    ("another count of records", AREA[:29] + b"\xff" + AREA[30:], "idbrun: damaged area 0 at 26"),
+    ("another byte at the closed gate", AREA[:-1] + b"\x01", [1]),
+    ("bytes behind the closed gate", AREA + b"\x55" * 10, [1]),
+]
+
+
+def areas():
+    example = open(os.path.dirname(os.path.dirname(os.path.realpath(__file__))) + "/examples/first.json", "rb").read()
+    with tempfile.TemporaryDirectory() as folder:
+        ran = subprocess.run([PROGRAM, "run"], input=example, cwd=folder, capture_output=True)
+        well = ran.returncode == 0 and open(f"{folder}/idb.0", "rb").read() == AREA
+    print(f"the first example leaves {'the worked bytes' if well else 'OTHER BYTES'}")
+    for what, given, expected in FILES:
+        with tempfile.TemporaryDirectory() as folder:
+            with open(f"{folder}/idb.0", "wb") as it:
+                it.write(given)
+            keys, why = found(folder)
+            left = open(f"{folder}/idb.0", "rb").read()
+            so = keys == expected if isinstance(expected, list) else keys is None and expected in why and left == given
+            print(f"{what}: {keys if keys is not None else why.splitlines()[0]}{'' if so else ', and NOT ' + str(expected)}")
+            well &= so
+    return well
+
+
 def main():
-    if len(sys.argv) < 2 or sys.argv[1] not in ("faults", "kills", "syncs"):
+    if len(sys.argv) < 2 or sys.argv[1] not in ("faults", "kills", "syncs", "areas"):
         print(__doc__)
         return 2
     if sys.argv[1] == "kills":
         well = kills(int(sys.argv[2]) if len(sys.argv) > 2 else 200)
     else:
-        well = {"faults": faults, "syncs": syncs}[sys.argv[1]]()
+        well = {"faults": faults, "syncs": syncs, "areas": areas}[sys.argv[1]]()
     print("all well" if well else "NOT WELL")
     return 0 if well else 1
 
