@@ -1,1 +1,2 @@
 mod SameAnswers
+mod BatchLines

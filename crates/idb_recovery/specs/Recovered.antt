@@ -1,5 +1,6 @@
 -- What a recovery gives.
 --     recover_error_of      an error of the log, as a recovery hands it on
+--     collect_error_as      an error of reading batches, as a look hands it on
 --     disk_recovered        the disk after a recovery
 --     GivesItems            a log and its databases: those that the batches give that were read
 --     SameAnswer            the same is found in both areas, and a recovery gives the same
@@ -10,6 +11,8 @@ use Rattle.disk_trait.specs.Disk.{DiskView, WhereTold}
 use Rattle.gate_areas.specs.Sealed.{BatchList}
 use Rattle.gate_areas.specs.Found.{Nothing, Live, found_of}
 use Rattle.gate_areas.specs.LiveBatches.{EndBy}
+use Rattle.gate_areas.specs.declared.collecting.CollectError.{CollectError}
+use Rattle.gate_areas.specs.declared.collecting.CollectError.TheVariants as collect
 use Rattle.gate_log.specs.Content.{HasBatches}
 use Rattle.gate_log.specs.Log.{live_of, last_gate, content_of}
 use Rattle.gate_log.specs.Opened.{FoundAs}
@@ -27,6 +30,10 @@ abbrev pub recover_error_of : LogError → RecoverError
 recover_error_of log.DiskFault = error.DiskFault
 recover_error_of (log.Damaged area place) = error.Damaged area place
 recover_error_of log.NoMemory = error.NoMemory
+
+abbrev pub collect_error_as : CollectError → RecoverError
+collect_error_as collect.DiskFault = error.DiskFault
+collect_error_as collect.NoMemory = error.NoMemory
 
 abbrev pub disk_recovered : {D T R W d : _} → Result (Opened D T R W d) (RecoverError × D) → D
 disk_recovered (Ok opened) = opened.log.disk

@@ -1,5 +1,7 @@
 // Why a disk gives no databases.
-use gate_log::{Area, LogError};
+use gate_areas::{Area, CollectError, Failed};
+use gate_log::LogError;
+use idb_base::NoMemory;
 
 /// Why a disk gives no databases.
 #[derive(Clone, Copy, Debug, PartialEq, Eq)]
@@ -30,5 +32,41 @@ impl From<LogError> for RecoverError {
             LogError::Damaged { area, place } => RecoverError::Damaged { area, place },
             LogError::NoMemory => RecoverError::NoMemory,
         }
+    }
+}
+
+impl From<CollectError> for RecoverError {
+    ghost use Rattle.std.specs.Prelude.{◌≡◌};
+    ghost use Rattle.idb_recovery.specs.Recovered.{collect_error_as};
+
+    ghost from_gives = { λ error given. given ≡ collect_error_as error };
+
+    fn from(error: CollectError) -> RecoverError {
+        match error {
+            CollectError::DiskFault => RecoverError::DiskFault,
+            CollectError::NoMemory => RecoverError::NoMemory,
+        }
+    }
+}
+
+impl From<Failed> for RecoverError {
+    ghost use Rattle.std.specs.Prelude.{◌≡◌};
+    ghost use Rattle.idb_recovery.specs.declared.error.RecoverError.TheVariants.{DiskFault};
+
+    ghost from_gives = { λ _ error. error ≡ DiskFault };
+
+    fn from(_failed: Failed) -> RecoverError {
+        RecoverError::DiskFault
+    }
+}
+
+impl From<NoMemory> for RecoverError {
+    ghost use Rattle.std.specs.Prelude.{◌≡◌};
+    ghost use Rattle.idb_recovery.specs.declared.error.RecoverError.TheVariants.{NoMemory as WantOfMemory};
+
+    ghost from_gives = { λ _ error. error ≡ WantOfMemory };
+
+    fn from(_none: NoMemory) -> RecoverError {
+        RecoverError::NoMemory
     }
 }
