@@ -3,7 +3,7 @@ ghost use Rattle.std.specs.Prelude.{◌≡◌, ℕ, List, map, IfOk};
 ghost use Rattle.gate_areas.specs.Scan.{StandsAs};
 ghost use Rattle.gate_areas.specs.Sealed.{sealed_of};
 ghost use Rattle.log_history.specs.Replayed.{records_of_payload};
-ghost use Rattle.idb_recovery.specs.Lines.{number_of, line_of, lines_beside, shown};
+ghost use Rattle.idb_recovery.specs.Lines.{tx_number_of, batch_line_of, lines_beside, area_shown};
 
 use gate_areas::{Area, Batch, Batches, Scan};
 use idb_base::{Listed, NoMemory};
@@ -41,7 +41,7 @@ pub enum AreaFound {
 
 /// The numbers of these transactions.
 fn numbers_in(alloc: Global, records: &[LogRecord]) -> Result<Listed<u64>, NoMemory>
-    ensures { IfOk result (λ numbers. numbers ≡ map number_of records.now) }
+    ensures { IfOk result (λ numbers. numbers ≡ map tx_number_of records.now) }
 {
     let mut numbers = Vec::new(alloc);
     for record in records {
@@ -52,7 +52,7 @@ fn numbers_in(alloc: Global, records: &[LogRecord]) -> Result<Listed<u64>, NoMem
 
 /// The numbers of a batch's transactions; none where the bytes are no batch.
 fn numbers_of(alloc: Global, bytes: &[u8]) -> Result<Listed<u64>, NoMemory>
-    ensures { IfOk result (λ numbers. numbers ≡ map number_of (records_of_payload bytes.now)) }
+    ensures { IfOk result (λ numbers. numbers ≡ map tx_number_of (records_of_payload bytes.now)) }
 {
     match read_batch(alloc, bytes) {
         Ok(records) => numbers_in(alloc, records.as_slice()),
@@ -61,8 +61,8 @@ fn numbers_of(alloc: Global, bytes: &[u8]) -> Result<Listed<u64>, NoMemory>
     }
 }
 
-fn line_of(alloc: Global, batch: &Batch) -> Result<BatchLine, NoMemory>
-    ensures { IfOk result (λ line. line ≡ line_of (batch.now.place, batch.now.payload)) }
+fn batch_line_of(alloc: Global, batch: &Batch) -> Result<BatchLine, NoMemory>
+    ensures { IfOk result (λ line. line ≡ batch_line_of (batch.now.place, batch.now.payload)) }
 {
     Ok(BatchLine {
         place: batch.place,
@@ -73,12 +73,12 @@ fn line_of(alloc: Global, batch: &Batch) -> Result<BatchLine, NoMemory>
 
 /// A line for each of these batches.
 pub(crate) fn lines_of(alloc: Global, batches: &Batches) -> Result<BatchLines, NoMemory>
-    ensures { IfOk result (λ lines. lines ≡ map line_of batches.now) }
+    ensures { IfOk result (λ lines. lines ≡ map batch_line_of batches.now) }
 {
     let mut lines = BatchLines::new(alloc);
     for place in 0..batches.len() {
         match batches.at(place) {
-            Some(batch) => lines.push(line_of(alloc, batch)?)?,
+            Some(batch) => lines.push(batch_line_of(alloc, batch)?)?,
             None => unreachable!(),
         }
     }
@@ -98,8 +98,8 @@ pub(crate) fn dealt(alloc: Global, area: Area, lines: BatchLines) -> (BatchLines
 }
 
 /// An area with these lines; the one with a fault is never shown.
-pub(crate) fn shown(scan: Scan, lines: BatchLines) -> AreaFound
-    ensures { (bytes : List ℕ) → StandsAs scan bytes → result ≡ shown lines (sealed_of bytes) }
+pub(crate) fn area_shown(scan: Scan, lines: BatchLines) -> AreaFound
+    ensures { (bytes : List ℕ) → StandsAs scan bytes → result ≡ area_shown lines (sealed_of bytes) }
 {
     match scan {
         Scan::Open { generation, .. } => AreaFound::Open {

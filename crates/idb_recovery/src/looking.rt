@@ -11,7 +11,7 @@ ghost use Rattle.log_history.specs.Found.{found};
 ghost use Rattle.idb_recovery.specs.Lines.{lines_in, area_found};
 
 use crate::error::RecoverError;
-use crate::lines::{AreaFound, BatchLines, dealt, lines_of, shown};
+use crate::lines::{AreaFound, BatchLines, area_shown, dealt, lines_of};
 use gate_areas::{Choice, Disk, LiveArea, collect, survey_areas};
 use idb_databases::Databases;
 use index_tables::Tables;
@@ -33,7 +33,8 @@ pub struct Looked<T: Tables> {
 /// what a recovery would name. Each batch is read once, and those of the area that isn't live are not.
 pub fn look<D: Disk, T: Tables>(alloc: Global, disk: &mut D) -> Result<Looked<T>, RecoverError>
     // What is found of what reads give.
-    ensures items { IfOk result (λ looked. WhereTold (D.shows disk.old) (λ areas. found areas ≡ Ok looked.items)) }
+    ensures items { IfOk result (λ looked. WhereTold (D.shows disk.old)
+        (λ areas. found areas ≡ Ok looked.items)) }
     ensures zero { IfOk result (λ looked. WhereTold (D.shows disk.old)
         (λ areas. looked.zero ≡ area_found Area.Zero areas)) }
     ensures one { IfOk result (λ looked. WhereTold (D.shows disk.old)
@@ -52,8 +53,8 @@ pub fn look<D: Disk, T: Tables>(alloc: Global, disk: &mut D) -> Result<Looked<T>
     let Held { items, zero, one } = held;
     Ok(Looked {
         items,
-        zero: shown(survey.zero, zero),
-        one: shown(survey.one, one),
+        zero: area_shown(survey.zero, zero),
+        one: area_shown(survey.one, one),
     })
 }
 
@@ -74,7 +75,8 @@ fn held_by<D: Disk, T: Tables>(
     requires chosen { WhereTold (D.shows disk.old) (ChoiceIs choice) }
     requires fits { ChoiceFits choice (D.shows disk.old).lengths }
 
-    ensures items { IfOk result (λ held. WhereTold (D.shows disk.old) (λ areas. found areas ≡ Ok held.items)) }
+    ensures items { IfOk result (λ held. WhereTold (D.shows disk.old)
+        (λ areas. found areas ≡ Ok held.items)) }
     ensures zero { IfOk result (λ held. WhereTold (D.shows disk.old)
         (λ areas. held.zero ≡ lines_in Area.Zero (found_of areas))) }
     ensures one { IfOk result (λ held. WhereTold (D.shows disk.old)
@@ -106,7 +108,8 @@ fn held_at<D: Disk, T: Tables>(
     requires lives { WhereTold (D.shows disk.old) (Lives live) }
     requires fits { IsGatePlace live.gate ((D.shows disk.old).lengths live.area) }
 
-    ensures items { IfOk result (λ held. WhereTold (D.shows disk.old) (λ areas. found areas ≡ Ok held.items)) }
+    ensures items { IfOk result (λ held. WhereTold (D.shows disk.old)
+        (λ areas. found areas ≡ Ok held.items)) }
     ensures zero { IfOk result (λ held. WhereTold (D.shows disk.old)
         (λ areas. held.zero ≡ lines_in Area.Zero (found_of areas))) }
     ensures one { IfOk result (λ held. WhereTold (D.shows disk.old)
