@@ -95,7 +95,7 @@ impl Sizes {
         ensures inner { place < sum self.now.sizes → result.offset < slice_index self.now.sizes result.leaf }
     {
         let groups = self.sizes.len() / GROUP + 1;
-        self.seat_near(place, place / (self.total / groups + 1))
+        self.seat_near(place, place / (self.total / groups).max(1))
     }
 
     /// The same, sought from this group on.
