@@ -221,7 +221,7 @@ fn group_near(marks: &[usize], place: usize, guess: usize) -> usize
 {
     let mut low = 0;
     let mut high = marks.len();
-    let mut next = guess;
+    let mut next = guess.min(high.saturating_sub(1));
     let mut far: usize = 1;
     while high - low > 1 {
         let group = between(low, high, next);
