@@ -23,33 +23,33 @@ sum_set_behind ns i n k h w =
 
 -- a size one more
 pub raised_marks : (ns marks new : List ℕ) (i : ℕ) → i < length ns → AreMarks ns marks → length new ≡ length marks
-    → ((g : ℕ) → g < i / 64 + 1 → get_or new g 0 ≡ get_or marks g 0)
-    → ((g : ℕ) → i / 64 + 1 ≤ g → g < length marks → get_or new g 0 ≡ get_or marks g 0 + 1)
+    → ((g : ℕ) → g < i / 16 + 1 → get_or new g 0 ≡ get_or marks g 0)
+    → ((g : ℕ) → i / 16 + 1 ≤ g → g < length marks → get_or new g 0 ≡ get_or marks g 0 + 1)
     → AreMarks (set ns i (get_or ns i 0 + 1)) new
 raised_marks ns marks new i w a e b r g h =
     let old = a g (omega arith) in
     let long : length (set ns i (get_or ns i 0 + 1)) ≡ length ns = length-set ns i (get_or ns i 0 + 1) in
-    elim (cases_lt g (i / 64 + 1)) [
-      | inl k ↦ (omega (arith, old.0, long), omega (arith, old.1, b g k, sum_set_before ns i (get_or ns i 0 + 1) (64 * g) (omega arith)))
-      | inr k ↦ (omega (arith, old.0, long), omega (arith, old.1, r g k (omega arith), sum_set_behind ns i (get_or ns i 0 + 1) (64 * g) (omega arith) (omega (arith, old.0))))
+    elim (cases_lt g (i / 16 + 1)) [
+      | inl k ↦ (omega (arith, old.0, long), omega (arith, old.1, b g k, sum_set_before ns i (get_or ns i 0 + 1) (16 * g) (omega arith)))
+      | inr k ↦ (omega (arith, old.0, long), omega (arith, old.1, r g k (omega arith), sum_set_behind ns i (get_or ns i 0 + 1) (16 * g) (omega arith) (omega (arith, old.0))))
     ]
 
 -- a size one less
 pub lowered_marks : (ns marks new : List ℕ) (i : ℕ) → i < length ns → 0 < get_or ns i 0 → AreMarks ns marks → length new ≡ length marks
-    → ((g : ℕ) → g < i / 64 + 1 → get_or new g 0 ≡ get_or marks g 0)
-    → ((g : ℕ) → i / 64 + 1 ≤ g → g < length marks → get_or new g 0 + 1 ≡ get_or marks g 0)
+    → ((g : ℕ) → g < i / 16 + 1 → get_or new g 0 ≡ get_or marks g 0)
+    → ((g : ℕ) → i / 16 + 1 ≤ g → g < length marks → get_or new g 0 + 1 ≡ get_or marks g 0)
     → AreMarks (set ns i (get_or ns i 0 - 1)) new
 lowered_marks ns marks new i w z a e b r g h =
     let old = a g (omega arith) in
     let long : length (set ns i (get_or ns i 0 - 1)) ≡ length ns = length-set ns i (get_or ns i 0 - 1) in
-    elim (cases_lt g (i / 64 + 1)) [
-      | inl k ↦ (omega (arith, old.0, long), omega (arith, old.1, b g k, sum_set_before ns i (get_or ns i 0 - 1) (64 * g) (omega arith)))
-      | inr k ↦ (omega (arith, old.0, long), omega (arith, old.1, r g k (omega arith), sum_set_behind ns i (get_or ns i 0 - 1) (64 * g) (omega arith) (omega (arith, old.0))))
+    elim (cases_lt g (i / 16 + 1)) [
+      | inl k ↦ (omega (arith, old.0, long), omega (arith, old.1, b g k, sum_set_before ns i (get_or ns i 0 - 1) (16 * g) (omega arith)))
+      | inr k ↦ (omega (arith, old.0, long), omega (arith, old.1, r g k (omega arith), sum_set_behind ns i (get_or ns i 0 - 1) (16 * g) (omega arith) (omega (arith, old.0))))
     ]
 
 pub raise_keeps : (ns marks new : List ℕ) (total room a b b' i n : ℕ) → IsMarked ns marks total room a b → i < length ns → n ≡ get_or ns i n
-    → length new ≡ length marks → b' ≡ b → ((g : ℕ) → g < i / 64 + 1 → get_or new g 0 ≡ get_or marks g 0)
-    → ((g : ℕ) → i / 64 + 1 ≤ g → g < length marks → get_or new g 0 ≡ get_or marks g 0 + 1)
+    → length new ≡ length marks → b' ≡ b → ((g : ℕ) → g < i / 16 + 1 → get_or new g 0 ≡ get_or marks g 0)
+    → ((g : ℕ) → i / 16 + 1 ≤ g → g < length marks → get_or new g 0 ≡ get_or marks g 0 + 1)
     → IsMarked (set ns i (n + 1)) new (total + 1) room a b'
 raise_keeps ns marks new total room a b b' i n p w r l c below above =
     let e : n ≡ get_or ns i 0 = get_or_read ns i n w r 0 in
@@ -63,8 +63,8 @@ raise_keeps ns marks new total room a b b' i n p w r l c below above =
     }
 
 pub lower_keeps : (ns marks new : List ℕ) (total room a b b' i n : ℕ) → IsMarked ns marks total room a b → i < length ns → n ≡ get_or ns i n
-    → 0 < get_or ns i 0 → length new ≡ length marks → b' ≡ b → ((g : ℕ) → g < i / 64 + 1 → get_or new g 0 ≡ get_or marks g 0)
-    → ((g : ℕ) → i / 64 + 1 ≤ g → g < length marks → get_or new g 0 + 1 ≡ get_or marks g 0)
+    → 0 < get_or ns i 0 → length new ≡ length marks → b' ≡ b → ((g : ℕ) → g < i / 16 + 1 → get_or new g 0 ≡ get_or marks g 0)
+    → ((g : ℕ) → i / 16 + 1 ≤ g → g < length marks → get_or new g 0 + 1 ≡ get_or marks g 0)
     → IsMarked (set ns i (n - 1)) new (total - 1) room a b'
 lower_keeps ns marks new total room a b b' i n p w r z l c below above =
     let e : n ≡ get_or ns i 0 = get_or_read ns i n w r 0 in

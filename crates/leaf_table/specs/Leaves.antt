@@ -96,9 +96,9 @@ pub record IsPile {A : Type 0} (leaves : List (List A)) (sizes : Row) (free in_u
   pub room_sizes : length leaves + free ≤ sizes.room
   pub limit : length leaves + free ≤ 2 ^ 40
 
--- a mark at each group of 64 sizes, from the first on, says how much stands before the group
+-- a mark at each group of 16 sizes, from the first on, says how much stands before the group
 abbrev pub AreMarks : List ℕ → List ℕ → Type 0
-AreMarks sizes marks = (g : ℕ) → g < length marks → (64 * g < length sizes) × (slice_index marks g ≡ sum (take (64 * g) sizes))
+AreMarks sizes marks = (g : ℕ) → g < length marks → (16 * g < length sizes) × (slice_index marks g ≡ sum (take (16 * g) sizes))
 
 -- the total and the marks are those of the sizes, and there is room in both lists
 pub record IsMarked (sizes marks : List ℕ) (total room in_sizes in_marks : ℕ) : Type 0 where

@@ -4,7 +4,7 @@ ghost use Rattle.sorted_table.specs.Tables.{value_there, with_value};
 ghost use Rattle.leaf_table.specs.Leaves.{joined, before, leaf_at, excesses, split_leaf, join_leaf};
 
 use crate::leaf::{HALF, Leaf};
-use crate::sizes::{MOST_LEAVES, Seat, Sizes};
+use crate::sizes::{MOST_LEAVES, Seat, Sizes, Span};
 use idb_base::NoMemory;
 use std::alloc::Global;
 use std::marker::Model;
@@ -87,6 +87,19 @@ impl<T: Drop> Pile<T> {
             → result.offset < length (leaf_at self.now.leaves result.leaf) }
     {
         self.sizes.seat(place)
+    }
+
+    /// The same of a place that stands in these leaves, or behind them.
+    pub(crate) fn seat_between(&self, place: usize, span: Span) -> Seat
+        requires within { place < length (joined self.now.leaves) }
+        requires first { span.first < length self.now.leaves }
+        requires start { span.start ≡ before self.now.leaves span.first }
+        requires behind { span.start ≤ place }
+        ensures leaf { result.leaf < length self.now.leaves }
+        ensures place { place ≡ before self.now.leaves result.leaf + result.offset }
+        ensures offset { result.offset < length (leaf_at self.now.leaves result.leaf) }
+    {
+        self.sizes.seat_between(place, span)
     }
 
     /// How many items this leaf has.

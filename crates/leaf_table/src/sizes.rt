@@ -16,10 +16,18 @@ pub(crate) struct Seat {
     pub(crate) offset: usize,
 }
 
-/// How many sizes stand between two marks.
-const GROUP: usize = 64;
+/// Leaves among which a place is sought, and how many items stand before the first of them.
+#[derive(Clone, Copy)]
+pub(crate) struct Span {
+    pub(crate) first: usize,
+    pub(crate) start: usize,
+    pub(crate) last: usize,
+}
 
-/// The sizes of leaves in order. A mark at each group of 64 says how many items stand before it.
+/// How many sizes stand between two marks.
+const GROUP: usize = 16;
+
+/// The sizes of leaves in order. A mark at each group of 16 says how many items stand before it.
 #[derive(Drop)]
 pub(crate) struct Sizes {
     sizes: Vec<usize>,
@@ -86,13 +94,43 @@ impl Sizes {
         ensures offset { result.offset ≤ slice_index self.now.sizes result.leaf }
         ensures inner { place < sum self.now.sizes → result.offset < slice_index self.now.sizes result.leaf }
     {
-        let group = group_of(self.marks.as_slice(), place);
+        let groups = self.sizes.len() / GROUP + 1;
+        self.seat_near(place, place / (self.total / groups).max(1))
+    }
+
+    /// The same, sought from this group on.
+    pub(crate) fn seat_near(&self, place: usize, guess: usize) -> Seat
+        requires some { 0 < length self.now.sizes }
+        requires within { place ≤ sum self.now.sizes }
+        ensures leaf { result.leaf < length self.now.sizes }
+        ensures place { place ≡ sum (take result.leaf self.now.sizes) + result.offset }
+        ensures offset { result.offset ≤ slice_index self.now.sizes result.leaf }
+        ensures inner { place < sum self.now.sizes → result.offset < slice_index self.now.sizes result.leaf }
+    {
+        let group = group_near(self.marks.as_slice(), place, guess);
         let first = GROUP * group;
         seat_from(
             self.sizes.as_slice(),
             first,
             place - mark_at(self.marks.as_slice(), group),
         )
+    }
+
+    /// The same of a place that stands in these leaves, or behind them.
+    pub(crate) fn seat_between(&self, place: usize, span: Span) -> Seat
+        requires within { place < sum self.now.sizes }
+        requires first { span.first < length self.now.sizes }
+        requires start { span.start ≡ sum (take span.first self.now.sizes) }
+        requires behind { span.start ≤ place }
+        ensures leaf { result.leaf < length self.now.sizes }
+        ensures place { place ≡ sum (take result.leaf self.now.sizes) + result.offset }
+        ensures offset { result.offset < slice_index self.now.sizes result.leaf }
+    {
+        if span.last.saturating_sub(span.first) <= GROUP {
+            seat_from(self.sizes.as_slice(), span.first, place - span.start)
+        } else {
+            self.seat_near(place, (span.first / 2 + span.last / 2) / GROUP)
+        }
     }
 
     /// The size of this leaf.
@@ -176,21 +214,39 @@ impl Sizes {
     }
 }
 
-/// The last group that begins at this place or before it.
-fn group_of(marks: &[usize], place: usize) -> usize
+/// The last group that begins at this place or before it. The search goes out from a guess, twice as far each time, and then
+/// halves.
+fn group_near(marks: &[usize], place: usize, guess: usize) -> usize
     ensures { (result ≡ 0) ⊎ ((result < length marks.now) × (slice_index marks.now result ≤ place)) }
 {
     let mut low = 0;
     let mut high = marks.len();
+    let mut next = guess.min(high.saturating_sub(1));
+    let mut far: usize = 1;
     while high - low > 1 {
-        let middle = low + (high - low) / 2;
-        if marks[middle] <= place {
-            low = middle;
+        let group = between(low, high, next);
+        if marks[group] <= place {
+            low = group;
+            next = group.saturating_add(far);
         } else {
-            high = middle;
+            high = group;
+            next = group.saturating_sub(far);
         }
+        far = far.saturating_add(far);
     }
     low
+}
+
+/// The guess, if it stands between these bounds, else their middle.
+fn between(low: usize, high: usize, guess: usize) -> usize
+    requires { low + 1 < high }
+    ensures { (low < result) × (result < high) }
+{
+    if low < guess && guess < high {
+        guess
+    } else {
+        low + (high - low) / 2
+    }
 }
 
 /// The mark of this group; nothing stands before the first.
@@ -261,8 +317,8 @@ fn put_size(sizes: &mut Vec<usize>, place: usize, size: usize)
 
 /// Makes the marks anew, but for those that say what stands before the group of this leaf or an earlier one.
 fn mark_from(sizes: &Vec<usize>, marks: &mut Vec<usize>, leaf: usize)
-    requires right { (g : ℕ) → g < length marks.old.items → 64 * g ≤ leaf
-        → slice_index marks.old.items g ≡ sum (take (64 * g) sizes.now.items) }
+    requires right { (g : ℕ) → g < length marks.old.items → 16 * g ≤ leaf
+        → slice_index marks.old.items g ≡ sum (take (16 * g) sizes.now.items) }
     requires room { length sizes.now.items ≤ vec_capacity marks.old }
     requires small { length sizes.now.items ≤ 2 ^ 40 }
     requires fits { sum sizes.now.items < 2 ^ 64 }
@@ -280,9 +336,9 @@ fn mark_from(sizes: &Vec<usize>, marks: &mut Vec<usize>, leaf: usize)
 /// The mark behind these.
 fn next_mark(sizes: &[usize], marks: &[usize]) -> usize
     requires marked { AreMarks sizes.now marks.now }
-    requires more { 64 * length marks.now < length sizes.now }
+    requires more { 16 * length marks.now < length sizes.now }
     requires fits { sum sizes.now < 2 ^ 64 }
-    ensures { result ≡ sum (take (64 * length marks.now) sizes.now) }
+    ensures { result ≡ sum (take (16 * length marks.now) sizes.now) }
 {
     let count = marks.len();
     if count == 0 {

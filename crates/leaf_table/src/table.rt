@@ -2,11 +2,11 @@
 ghost use Rattle.std.specs.Prelude.{◌≡◌, ℕ, ◌+◌, ◌-◌, ◌*◌, ◌/◌, ◌^◌, ◌<◌, ◌≤◌, [], List, Some, length, take, drop, slice_get, slice_set, insert, remove, option_map, option_copied, OnOk, IfOk, IfErr, IsTrue, ◌⊎◌};
 ghost use Rattle.std.specs.FinMap.{put};
 ghost use Rattle.sorted_table.specs.Tables.{pair_seen, IsSorted, AreAbove, HasKeyAt, BelongsAt, value_there, with_value};
-ghost use Rattle.leaf_table.specs.Leaves.{joined, leaf_at, spare_of, AreLeaves, are_leaves_is_prop};
+ghost use Rattle.leaf_table.specs.Leaves.{joined, before, leaf_at, spare_of, AreLeaves, are_leaves_is_prop};
 
 use crate::leaf::{HALF, MOST};
 use crate::pile::Pile;
-use crate::sizes::Seat;
+use crate::sizes::{Seat, Span};
 use idb_base::NoMemory;
 use sorted_table::{Ordered, OrderedTable, Steps};
 use std::alloc::Global;
@@ -217,7 +217,16 @@ fn pair_at<K: Drop, V: Drop>(pile: &Pile<(K, V)>, place: usize) -> &(K, V)
     requires { place < length (joined pile.now.leaves) }
     ensures { slice_get (joined pile.now.leaves) place ≡ Some result.now }
 {
-    let seat = pile.seat(place);
+    pair_in(pile, pile.seat(place))
+}
+
+/// The pair at this seat.
+fn pair_in<K: Drop, V: Drop>(pile: &Pile<(K, V)>, seat: Seat) -> &(K, V)
+    requires leaf { seat.leaf < length pile.now.leaves }
+    requires offset { seat.offset < length (leaf_at pile.now.leaves seat.leaf) }
+    ensures { slice_get (joined pile.now.leaves) (before pile.now.leaves seat.leaf + seat.offset)
+        ≡ Some result.now }
+{
     &pile.leaf(seat.leaf)[seat.offset]
 }
 
@@ -271,11 +280,24 @@ fn place_before<K: Ordered, V: Drop, L: Ledger>(
 {
     let mut low = 0;
     let mut end = high;
+    let mut span = Span {
+        first: 0,
+        start: 0,
+        last: pile.len(),
+    };
     while low < end {
         let middle = low + (end - low) / 2;
-        match compared(key, &pair_at(pile, middle).0, steps) {
-            Ordering::Less => end = middle,
-            Ordering::Greater => low = middle + 1,
+        let seat = pile.seat_between(middle, span);
+        match compared(key, &pair_in(pile, seat).0, steps) {
+            Ordering::Less => {
+                end = middle;
+                span.last = seat.leaf;
+            }
+            Ordering::Greater => {
+                low = middle + 1;
+                span.first = seat.leaf;
+                span.start = middle - seat.offset;
+            }
             Ordering::Equal => return Ok(middle),
         }
     }

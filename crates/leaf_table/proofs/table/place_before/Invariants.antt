@@ -1,9 +1,10 @@
-use Rattle.std.proofs.Common.{◌+◌, ◌-◌, ◌*◌, ◌^◌, ◌≤◌, take, drop}
+use Rattle.std.proofs.Common.{◌≡◌, ◌+◌, ◌-◌, ◌*◌, ◌^◌, ◌<◌, ◌≤◌, length, take, drop}
 use Rattle.sorted_table.specs.Tables.{AreBelow, AreAbove}
-use Rattle.leaf_table.specs.Leaves.{joined}
+use Rattle.leaf_table.specs.Leaves.{joined, before}
 use Rattle.leaf_table.proofs.table.place_before.Given as goal
 
--- the entries before `low` are below the key, and those from `end` on above it; each step halves what lies between
+-- the entries before `low` are below the key, and those from `end` on above it; each step halves what lies between; the
+-- span begins before `low`
 abbrev pub invariant-loop-low : goal.invariant-loop-low
 invariant-loop-low g l = record {
   ordered : l.low ≤ l.end;
@@ -13,6 +14,9 @@ invariant-loop-low g l = record {
   counted : l.fn.steps ≤ l.steps;
   parts : 2 ^ (l.steps - l.fn.steps) * (l.end - l.low) ≤ l.fn.high;
   cost : 2 ^ (l.steps - l.fn.steps) ≤ 2 * l.fn.high + 1;
+  first : 0 < l.fn.high → l.span.first < length l.pile.leaves;
+  start : l.span.start ≡ before l.pile.leaves l.span.first;
+  behind : l.span.start ≤ l.low;
 }
 
 abbrev pub decreases-loop-low : goal.decreases-loop-low

@@ -1,5 +1,5 @@
 use Rattle.std.proofs.Common.{◌≡◌, ◌-◌, ◌<◌, ◌≤◌, ◌⊎◌, length, get_or}
-use Rattle.leaf_table.proofs.sizes.group_of.Given as goal
+use Rattle.leaf_table.proofs.sizes.group_near.Given as goal
 
 abbrev pub invariant-loop-high : goal.invariant-loop-high
 invariant-loop-high l = record {
