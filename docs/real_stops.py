@@ -6,10 +6,10 @@
     docs/real_stops.py syncs       how many syncs a strict commit takes, counted by strace
     docs/real_stops.py areas       the bytes that the first example leaves, and what is found in files that were cut or changed by hand
 
-After each, a run of a reading script in the same folder has to find the keys 1 to m of the store, for some m, and every
-strict commit of a session whose report was printed. It ends with 1 where one of them doesn't. The program has to be built
-(one call of ./idbrun builds it), and strace to be there for `faults` and `syncs`. A run that ends with 127 met the fault as
-the system loaded it."""
+After each, a run of a reading script in the same folder has to find of each session the keys of a front of its commits, the one
+in doubt behind them, with every strict one that its report says complete. It ends with 1 where one of them doesn't. The
+program has to be built (one call of ./idbrun builds it), and strace to be there for `faults` and `syncs`. A run that ends
+with 127 met the fault as the system loaded it."""
 import json
 import os
 import random
@@ -55,23 +55,38 @@ def found(folder):
     return [int(it) for it in keys[1].split(",") if it], ""
 
 
-def is_front(keys, least):
-    return keys == list(range(1, len(keys) + 1)) and len(keys) >= least
+def commits_of(pairs, report):
+    """The keys that a session may have left, in the order of its commits, and how many of them have to be there."""
+    numbers = re.findall(r"^tx (\d+) create ", report, re.M)
+    order, least = [], 0
+    for (key, durability), number in zip(pairs, numbers):
+        if re.search(rf"^tx {number} complete$", report, re.M):
+            order.append(key)
+            least = len(order) if durability == "strict" else least
+        elif re.search(rf"^tx {number} abort UnknownError doubt$", report, re.M):
+            order.append(key)
+    return order, least
 
 
-def judge(folder, least, what):
+def judge(folder, sessions, printed, what):
+    """Whether the keys that are found are those of a front of each session's commits; those of sessions without a report may be any front."""
     keys, why = found(folder)
-    if keys is None or not is_front(keys, least):
-        print(f"{what}: found {keys}, and at least the keys 1 to {least} were to be there. {why}")
-        return False
-    return True
+    reports = re.split(r"^(?=session \d+$)", printed, flags=re.M)[1:]
+    well = keys is not None
+    rest = keys or []
+    for at, pairs in enumerate(sessions):
+        order, least = commits_of(pairs, reports[at]) if at < len(reports) else ([key for key, _ in pairs], 0)
+        here = [key for key in rest if key in [it for it, _ in pairs]]
+        well &= here == order[:len(here)] and len(here) >= least
+    if not well:
+        print(f"{what}: found {keys}, after {printed!r}. {why}")
+    return well
 
 
 def faults():
-    pairs = [[(1, "relaxed"), (2, "relaxed"), (3, "strict"), (4, "relaxed")], [(5, "strict"), (6, "strict")]]
-    given = script([puts(it) for it in pairs], ["flush", "flush"])
-    strict = [3, 6]  # the greatest strict key of each session
-    well, ends = True, {}
+    sessions = [[(1, "relaxed"), (2, "relaxed"), (3, "strict"), (4, "relaxed")], [(5, "strict"), (6, "strict")]]
+    given = script([puts(it) for it in sessions], ["flush", "flush"])
+    well, ends, by_fault = True, {}, 0
     for call in CALLS:
         k = 0
         while True:
@@ -80,10 +95,15 @@ def faults():
                 ran = subprocess.run(["strace", "-f", "-qq", "-o", f"{folder}/trace", "-e", f"trace={call}", "-e", f"inject={call}:error=EIO:when={k}",
                                       PROGRAM, "run"], input=given, cwd=folder, capture_output=True)
                 hit = "(INJECTED)" in open(f"{folder}/trace").read()
-                reports = len(re.findall(rb"^session \d+$", ran.stdout, re.M))
-                well &= judge(folder, strict[reports - 1] if reports else 0, f"{call}, failing call {k}")
+                text = ran.stdout.decode()
+                # a strict commit that meets a fault is in doubt, and its session ends by that
+                well &= judge(folder, sessions, text, f"{call}, failing call {k}")
+                by_fault += len(re.findall(r"^end fault$", text, re.M))
                 if hit:
                     ends.setdefault(call, []).append(ran.returncode)
+                    if ran.returncode == 0 and "\nend fault\n" not in text or ran.returncode not in (0, 7, 127):
+                        print(f"{call}, failing call {k}: the run ended with {ran.returncode}, after {text!r}")
+                        well = False
                 elif ran.returncode:
                     print(f"{call}: no call failed, and the run ended with {ran.returncode}")
                     well = False
@@ -91,6 +111,7 @@ def faults():
                 break
     for call in CALLS:
         print(f"{call}: {len(ends.get(call, []))} calls failed, one at a time; the runs ended with {' '.join(map(str, ends.get(call, [])))}")
+    print(f"{by_fault} sessions ended by a fault")
     return well
 
 
@@ -102,7 +123,7 @@ def kills(number):
         began = time.time()
         ran = subprocess.run([PROGRAM, "run"], input=given, cwd=folder, capture_output=True)
         whole = time.time() - began
-        if ran.returncode or not judge(folder, each * sessions, "the whole run"):
+        if ran.returncode or not judge(folder, pairs, ran.stdout.decode(), "the whole run"):
             return False
     well, counts = True, []
     for turn in range(number):
@@ -115,9 +136,9 @@ def kills(number):
                 started.send_signal(signal.SIGKILL)
                 started.wait()
             # a report is there whole where its last line is
-            reports = len(re.findall(rb"^end flush$", open(f"{folder}/out", "rb").read(), re.M))
-            counts.append(reports)
-            well &= judge(folder, each * reports, f"kill {turn + 1}")
+            text = open(f"{folder}/out", "rb").read().decode()
+            counts.append(len(re.findall(r"^end flush$", text, re.M)))
+            well &= judge(folder, pairs, text[:text.rfind("end flush\n") + 10] if counts[-1] else "", f"kill {turn + 1}")
     print(f"{number} runs of {sessions} sessions with {each} strict commits were killed; a whole run takes {whole:.2f} s; whole reports printed: {min(counts)} to {max(counts)}")
     return well
 

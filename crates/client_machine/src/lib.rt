@@ -9,3 +9,4 @@ mod limits;
 
 pub use laws_of_answers::agreeing_laws;
 pub use limits::GREATEST_POST_COUNT;
+pub use serial_order::serial_laws;

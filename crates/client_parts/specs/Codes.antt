@@ -4,7 +4,7 @@ use Rattle.std.specs.Coded.{Coded, codes}
 use Rattle.clone_values.specs.KeyTree.{key_code}
 use Rattle.clone_values.specs.Tree.{tree_code}
 use Rattle.idb_keys.specs.KeyRange.{range_code}
-use Rattle.serial_order.specs.FinishEntries.{ScriptedBody, TxBody}
+use Rattle.client_machine.specs.FinishEntries.{ScriptedBody, TxBody}
 use Rattle.script_handlers.specs.Codes.{script_code}
 use Rattle.script_handlers.specs.Handling.{Script}
 use Rattle.client_machine.specs.ClientStates.{OpenAsked, ClientTxKind, ClientTx, ClientState}

@@ -122,6 +122,24 @@ impl Office {
         Ok(true)
     }
 
+    /// The host is faulted from now on, unless it was: nothing starts any more, and connections are told to close (the rules of
+    /// this store on durability and faults). It takes no memory.
+    pub fn fault(&mut self) -> bool
+        ensures one { result ≡ is_allowed (desk_run self.old.run) step.Faults }
+        ensures faulted { result ≡ true
+            → self.new ≡ record self.old { run = with_step self.old.run step.Faults } }
+        ensures unchanged { result ≡ false → self.new ≡ self.old }
+    {
+        if !self.desk.can(&DeskStep::Faults) {
+            return false;
+        }
+        match self.desk.step(DeskStep::Faults, None) {
+            Ok(_) => {}
+            Err(_) => unreachable!(),
+        }
+        true
+    }
+
     /// A transaction ends: its line, and then the block for it, which runs at once. A deletion tells that by the event of its request.
     fn end_tx(
         &mut self,

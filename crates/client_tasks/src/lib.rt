@@ -14,6 +14,3 @@ mod tasks;
 
 pub use errors::TakeError;
 pub use offices::Office;
-
-#[cfg(test)]
-mod tests;

@@ -18,7 +18,7 @@ use Rattle.idb_desk.specs.Refusals.{is_created_stage}
 use Rattle.idb_desk.specs.Steps.{DeskRun, desk_run, with_step, IsDeskRun}
 use Rattle.script_statements.specs.declared.script.Block.{Block as Named}
 use Rattle.script_runs.specs.declared.notes.Note.{Note}
-use Rattle.serial_order.specs.SerialRuns.{joined_lines}
+use Rattle.client_machine.specs.SerialRuns.{joined_lines}
 use Rattle.client_machine.specs.Acts.{Told, Act, Makes, txs_begun}
 use Rattle.client_machine.specs.Answering.{MadeAtOnce}
 use Rattle.client_machine.specs.ClientStates.{ClientTx, ClientTxKind, ClientState, is_tx, tx_at, without_tx, started_if, with_started, with_notes, fresh_client}

@@ -1,5 +1,6 @@
 // Lists that their copies share. An empty list is `Empty`, and takes no memory; a change first makes the list its own.
-ghost use Rattle.std.specs.Prelude.{◌≡◌, [], ◌∷◌, ◌++◌, OnOk, OnErr, IfOk};
+ghost use Rattle.std.specs.Prelude.{◌≡◌, ◌<◌, ◌≤◌, [], ◌∷◌, ◌++◌, length, slice_set, OnOk, OnErr, IfOk};
+ghost use Rattle.std.specs.List.{insert};
 ghost use Rattle.clone_values.specs.Held.{items_held};
 
 use idb_base::NoMemory;
@@ -74,6 +75,50 @@ pub(crate) fn push<T: Clone + Drop>(
     if let Held::Shared(shared) = list {
         if let Some(items) = Arc::get_mut(shared) {
             items.push(item)?;
+            return Ok(());
+        }
+    }
+    Err(NoMemory)
+}
+
+/// Puts an item in the place of the one that stands there.
+pub(crate) fn replace_held<T: Clone + Drop>(
+    alloc: Global,
+    list: &mut Held<T>,
+    place: usize,
+    item: T,
+) -> Result<(), NoMemory>
+    requires clones { (x y : T) → T.is_clone x y → y ≡ x }
+    requires within { place < length (items_held list.old) }
+    ensures replaced { OnOk result (items_held list.new ≡ slice_set (items_held list.old) place item) }
+    ensures unchanged { OnErr result (items_held list.new ≡ items_held list.old) }
+{
+    own(alloc, list)?;
+    if let Held::Shared(shared) = list {
+        if let Some(items) = Arc::get_mut(shared) {
+            items[place] = item;
+            return Ok(());
+        }
+    }
+    Err(NoMemory)
+}
+
+/// Puts an item before the one that stands at this place, or at the end.
+pub(crate) fn insert_held<T: Clone + Drop>(
+    alloc: Global,
+    list: &mut Held<T>,
+    place: usize,
+    item: T,
+) -> Result<(), NoMemory>
+    requires clones { (x y : T) → T.is_clone x y → y ≡ x }
+    requires within { place ≤ length (items_held list.old) }
+    ensures inserted { OnOk result (items_held list.new ≡ insert (items_held list.old) place item) }
+    ensures unchanged { OnErr result (items_held list.new ≡ items_held list.old) }
+{
+    own(alloc, list)?;
+    if let Held::Shared(shared) = list {
+        if let Some(items) = Arc::get_mut(shared) {
+            items.insert(place, item)?;
             return Ok(());
         }
     }

@@ -27,6 +27,3 @@ pub use sameness::same_value;
 pub use small_lists::{Bytes, Numbers, Text, Texts};
 pub use value_laws::building_laws;
 pub use value_types::{Items, Pair, Pairs, Prop, Props, Value};
-
-#[cfg(test)]
-mod tests;

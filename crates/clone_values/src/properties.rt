@@ -8,7 +8,7 @@ ghost use Rattle.clone_values.specs.Names.{is_rising, names_of, set_member, set_
 ghost use Rattle.clone_values.specs.Tree.{Tree};
 ghost use Rattle.clone_values.specs.View.{tree_of, prop_of, named_value_of};
 
-use crate::holding::{Held, hold, own, slice};
+use crate::holding::{Held, hold, insert_held, own, replace_held, slice};
 use crate::small_lists::Text;
 use crate::value_types::{Prop, Props, Value};
 use idb_base::NoMemory;
@@ -138,7 +138,8 @@ impl Props {
         ensures same_names { names_of self.new ≡ names_of self.old }
         ensures unchanged { OnErr result (self.new ≡ self.old) }
     {
-        swap_held(self.alloc, &mut self.props, place, value)
+        let mut other = value;
+        swap_held(self.alloc, &mut self.props, place, &mut other).and(Ok(other))
     }
 }
 
@@ -166,39 +167,19 @@ fn note(values: &mut BTreeMap<Text, Value>, prop: Prop) -> Result<(), NoMemory>
     Ok(())
 }
 
-fn replace_held(
-    alloc: Global,
-    props: &mut Held<Prop>,
-    place: usize,
-    prop: Prop,
-) -> Result<(), NoMemory>
-    requires { place < length (items_held props.old) }
-    ensures replaced { OnOk result (map prop_of (items_held props.new)
-        ≡ slice_set (map prop_of (items_held props.old)) place (prop_of prop)) }
-    ensures unchanged { OnErr result (items_held props.new ≡ items_held props.old) }
-{
-    own(alloc, props)?;
-    if let Held::Shared(shared) = props {
-        if let Some(own) = Arc::get_mut(shared) {
-            replace_prop(own, place, prop);
-            return Ok(());
-        }
-    }
-    Err(NoMemory)
-}
-
+// Puts into each other a value and that of the property at this place.
 fn swap_held(
     alloc: Global,
     props: &mut Held<Prop>,
     place: usize,
-    value: Value,
-) -> Result<Value, NoMemory>
+    value: &mut Value,
+) -> Result<(), NoMemory>
     requires { place < length (items_held props.old) }
-    ensures given { IfOk result (λ v. option_map
-        (λ m. m.1) (slice_get (map prop_of (items_held props.old)) place) ≡ Some (tree_of v)) }
+    ensures given { OnOk result (option_map
+        (λ m. m.1) (slice_get (map prop_of (items_held props.old)) place) ≡ Some (tree_of value.new)) }
     ensures put { OnOk result ((name : List ℕ) → HasNameAt (map prop_of (items_held props.old)) place name
         → map prop_of (items_held props.new)
-        ≡ slice_set (map prop_of (items_held props.old)) place (name, tree_of value)) }
+        ≡ slice_set (map prop_of (items_held props.old)) place (name, tree_of value.old)) }
     ensures same_names { names_of (map prop_of (items_held props.new))
         ≡ names_of (map prop_of (items_held props.old)) }
     ensures unchanged { OnErr result (items_held props.new ≡ items_held props.old) }
@@ -206,56 +187,21 @@ fn swap_held(
     own(alloc, props)?;
     if let Held::Shared(shared) = props {
         if let Some(own) = Arc::get_mut(shared) {
-            return Ok(swap_value(own, place, value));
+            swap_value(own, place, value);
+            return Ok(());
         }
     }
     Err(NoMemory)
 }
 
-fn insert_held(
-    alloc: Global,
-    props: &mut Held<Prop>,
-    place: usize,
-    prop: Prop,
-) -> Result<(), NoMemory>
-    requires { place ≤ length (items_held props.old) }
-    ensures inserted { OnOk result (map prop_of (items_held props.new)
-        ≡ insert (map prop_of (items_held props.old)) place (prop_of prop)) }
-    ensures unchanged { OnErr result (items_held props.new ≡ items_held props.old) }
-{
-    own(alloc, props)?;
-    if let Held::Shared(shared) = props {
-        if let Some(own) = Arc::get_mut(shared) {
-            return insert_prop(own, place, prop);
-        }
-    }
-    Err(NoMemory)
-}
-
-fn replace_prop(props: &mut Vec<Prop>, place: usize, prop: Prop)
-    requires { place < vec_len props.old }
-    ensures { map prop_of props.new.items ≡ slice_set (map prop_of props.old.items) place (prop_of prop) }
-{
-    props[place] = prop;
-}
-
-fn swap_value(props: &mut Vec<Prop>, place: usize, value: Value) -> Value
+fn swap_value(props: &mut Vec<Prop>, place: usize, value: &mut Value)
     requires { place < vec_len props.old }
     ensures given { option_map
-        (λ m. m.1) (slice_get (map prop_of props.old.items) place) ≡ Some (tree_of result) }
+        (λ m. m.1) (slice_get (map prop_of props.old.items) place) ≡ Some (tree_of value.new) }
     ensures put { (name : List ℕ) → HasNameAt (map prop_of props.old.items) place name
-        → map prop_of props.new.items ≡ slice_set (map prop_of props.old.items) place (name, tree_of value) }
+        → map prop_of props.new.items
+        ≡ slice_set (map prop_of props.old.items) place (name, tree_of value.old) }
     ensures same_names { names_of (map prop_of props.new.items) ≡ names_of (map prop_of props.old.items) }
 {
-    std::mem::replace(&mut props[place].value, value)
-}
-
-fn insert_prop(props: &mut Vec<Prop>, place: usize, prop: Prop) -> Result<(), NoMemory>
-    requires { place ≤ vec_len props.old }
-    ensures inserted { OnOk result (map prop_of props.new.items
-        ≡ insert (map prop_of props.old.items) place (prop_of prop)) }
-    ensures unchanged { OnErr result (props.new.items ≡ props.old.items) }
-{
-    props.insert(place, prop)?;
-    Ok(())
+    std::mem::swap(&mut props[place].value, value);
 }

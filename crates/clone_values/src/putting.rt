@@ -1,17 +1,14 @@
 // Putting members into Sets and Maps: a repeated primitive keeps its first place.
-ghost use Rattle.std.specs.Prelude.{◌≡◌, ℕ, ◌<◌, length, map, slice_set, vec_len, IsTrue, IfSome, OnOk, OnErr, IsOk};
+ghost use Rattle.std.specs.Prelude.{◌≡◌, ◌<◌, length, IsTrue, IfSome, OnOk, OnErr, IsOk};
 ghost use Rattle.std.specs.List.{list_any, position_from};
 ghost use Rattle.idb_base.specs.Lists.{FitsOneMore};
-ghost use Rattle.clone_values.specs.Held.{items_held};
-ghost use Rattle.clone_values.specs.View.{tree_of, pair_of};
+ghost use Rattle.clone_values.specs.View.{tree_of};
 ghost use Rattle.clone_values.specs.Sameness.{is_primitive, repeats, put_once, put_pair};
 
-use crate::holding::{Held, own, push};
+use crate::holding::{push, replace_held};
 use crate::sameness::is_same;
 use crate::value_types::{Items, Pair, Pairs, Value};
 use idb_base::NoMemory;
-use std::alloc::Global;
-use std::sync::Arc;
 
 impl Items {
     /// Puts a member into a Set: a primitive that is there already stays where it is, and no memory is asked for.
@@ -83,32 +80,4 @@ fn is_primitive(v: &Value) -> bool
         Value::Undefined | Value::Null | Value::Bool(_) | Value::Int(_) | Value::Text(_) => true,
         _ => false,
     }
-}
-
-fn replace_held(
-    alloc: Global,
-    pairs: &mut Held<Pair>,
-    place: usize,
-    pair: Pair,
-) -> Result<(), NoMemory>
-    requires { place < length (items_held pairs.old) }
-    ensures replaced { OnOk result (map pair_of (items_held pairs.new)
-        ≡ slice_set (map pair_of (items_held pairs.old)) place (pair_of pair)) }
-    ensures unchanged { OnErr result (items_held pairs.new ≡ items_held pairs.old) }
-{
-    own(alloc, pairs)?;
-    if let Held::Shared(shared) = pairs {
-        if let Some(own) = Arc::get_mut(shared) {
-            replace_pair(own, place, pair);
-            return Ok(());
-        }
-    }
-    Err(NoMemory)
-}
-
-fn replace_pair(pairs: &mut Vec<Pair>, place: usize, pair: Pair)
-    requires { place < vec_len pairs.old }
-    ensures { map pair_of pairs.new.items ≡ slice_set (map pair_of pairs.old.items) place (pair_of pair) }
-{
-    pairs[place] = pair;
 }

@@ -13,6 +13,3 @@ mod steps;
 
 pub use laws::queue_laws;
 pub use queues::Queues;
-
-#[cfg(test)]
-mod tests;

@@ -1,5 +1,5 @@
 -- What the parts that were taken out and changed make of the whole.
-use Rattle.std.proofs.Common.{◌≡◌, ℕ, Bool, true, false, List, [], Option, Some, None, option_and_then, is_some, is_none, refl, sym, ap, subst, ◌∙◌}
+use Rattle.std.proofs.Common.{◌≡◌, ℕ, Result, Ok, Err, OnOk, OnErr, IsErrOf, Bool, true, false, List, [], Option, Some, None, option_and_then, is_some, is_none, refl, sym, ap, subst, ◌∙◌}
 use Rattle.std.specs.FinMap as finite
 use Rattle.std.proofs.lemmas.Option.{same_Some}
 use Rattle.clone_values.specs.declared.path_types.PathSpec.{PathSpec}
@@ -11,10 +11,16 @@ use Rattle.idb_calls.specs.Deltas.{DeltaTree, Version, DropDatabase, CreateStore
 use Rattle.item_changes.specs.Items.{Name, Database, Items, stood_at, changed_at, store_at}
 use Rattle.item_changes.specs.Effects.{Effect, OnDatabase, OnStore, effect_of, finds, made, applied, applies, store_without_index_if}
 use Rattle.item_changes.proofs.Laws.{names_total, one_name, changed_here}
+use Rattle.store_changes.specs.declared.error.ChangeError.{ChangeError}
 use Rattle.store_changes.specs.Making.{CanMake, is_found_in, left_of, breaks}
 use Rattle.idb_databases.specs.Stores.{Stores}
 use Rattle.database_changes.specs.StoreChanges.{CanApply, is_on_content, IsOf, HasNames, stores_find, stores_made, store_made, database_with, BreaksOne}
 use Rattle.database_changes.proofs.Back.{put_over, put_back, was_absent}
+
+-- ---- what follows from an answer
+pub on_err_of : {A E P : Type 0} (r : Result A E) (e : E) → IsErrOf r e → OnErr r P → P
+on_err_of (Ok a) e h p = absurd cc
+on_err_of (Err e') e h p = p
 
 -- ---- in the stores of a database
 stores_by : (effect : Effect) (stores : Stores) (name : Name) (old new : Store) → IsOf name effect → finite.get stores name ≡ Some old → left_of effect old ≡ Some new
@@ -58,6 +64,11 @@ finds_none (Current db store current) can stores name of none = rw (of, none) re
 
 pub lacks_it : (delta : DeltaTree) (stores : Stores) (name : Name) → CanMake delta → IsOf name (effect_of delta) → finite.get stores name ≡ None → stores_find (effect_of delta) stores ≡ false
 lacks_it delta stores name can of none = finds_none delta can stores name of none
+
+-- the name after a change that was made, or was not
+pub name_kept : (said : Result Unit ChangeError) (delta : DeltaTree) (old new : Store) → CanMake delta → OnOk said (left_of (effect_of delta) old ≡ Some new) → OnErr said (new ≡ old) → new.info.name ≡ old.info.name
+name_kept (Ok u) delta old new can left same = name_stays delta old new can left
+name_kept (Err e) delta old new can left same = ap (λ (s : Store). s.info.name) same
 
 -- ---- in the databases
 pub can_make : (delta : DeltaTree) → CanApply delta → is_on_content delta ≡ true → CanMake delta

@@ -5,8 +5,9 @@ ghost use Rattle.idb_calls.specs.View.{delta_of};
 ghost use Rattle.idb_calls.specs.Deltas.{Version, DropDatabase, CreateStore, DropStore};
 ghost use Rattle.idb_schema.specs.Definitions.{IsStoreInfo};
 ghost use Rattle.idb_databases.specs.Items.{IsVersionNumber};
-ghost use Rattle.item_changes.specs.Effects.{applied, applies};
-ghost use Rattle.database_changes.specs.StoreChanges.{CanApply, is_on_content, database_with, BreaksOne};
+ghost use Rattle.item_changes.specs.Effects.{applied, applies, effect_of};
+ghost use Rattle.store_changes.specs.Making.{CanMake, breaks};
+ghost use Rattle.database_changes.specs.StoreChanges.{CanApply, is_on_content, IsOf, HasNames, stores_find, stores_made, store_made, database_with, BreaksOne};
 
 use crate::names::{is_on_content, names_of};
 use crate::stores::{change_store, drop_from, has_store, put_new};
@@ -75,28 +76,73 @@ fn change_content<T: Tables>(
     ensures unmissed { IsErrOf result ChangeError.Missing → items.new ≡ items.old }
     ensures unbroken { IsErrOf result ChangeError.Constraint → items.new ≡ items.old }
 {
-    let (db, store) = names_of(&change)?;
-    match take_database(items, &db) {
-        None => Err(ChangeError::Missing),
-        Some((version, stores)) => {
-            let mut stores = stores;
-            match change_store(alloc, &mut stores, &store, change) {
-                Ok(()) => {
-                    put_database(items, db, version, stores)?;
-                    Ok(())
-                }
-                Err(ChangeError::Missing) => {
-                    put_database(items, db, version, stores)?;
-                    Err(ChangeError::Missing)
-                }
-                Err(ChangeError::Constraint) => {
-                    put_database(items, db, version, stores)?;
-                    Err(ChangeError::Constraint)
-                }
-                Err(ChangeError::NoMemory) => Err(ChangeError::NoMemory),
-            }
+    match names_of(&change) {
+        Ok((db, store)) => change_at(alloc, items, db, &store, change),
+        Err(NoMemory) => {
+            drop(change);
+            Err(ChangeError::NoMemory)
         }
     }
+}
+
+/// Changes what is in the store of this name in the database of this name.
+fn change_at<T: Tables>(
+    alloc: Global,
+    items: &mut Databases<T>,
+    db: Text,
+    store: &Text,
+    change: Delta,
+) -> Result<(), ChangeError>
+    requires can { CanMake (delta_of change) }
+    requires names { HasNames db store.now (delta_of change) }
+    ensures made { OnOk result (items.new ≡ applied items.old (delta_of change)) }
+    ensures found { OnOk result (applies items.old (delta_of change) ≡ true) }
+    ensures missing { IsErrOf result ChangeError.Missing → applies items.old (delta_of change) ≡ false }
+    ensures broken { IsErrOf result ChangeError.Constraint → BreaksOne items.old (delta_of change) }
+    ensures unmissed { IsErrOf result ChangeError.Missing → items.new ≡ items.old }
+    ensures unbroken { IsErrOf result ChangeError.Constraint → items.new ≡ items.old }
+{
+    match take_database(items, &db) {
+        None => {
+            drop(change);
+            drop(db);
+            Err(ChangeError::Missing)
+        }
+        Some((version, stores)) => {
+            change_taken(alloc, items, db, version, stores, store, change)
+        }
+    }
+}
+
+/// Changes what is in a store of a database that was taken out, and puts the database back.
+fn change_taken<T: Tables>(
+    alloc: Global,
+    items: &mut Databases<T>,
+    db: Text,
+    version: u64,
+    stores: Versions<T>,
+    store: &Text,
+    change: Delta,
+) -> Result<(), ChangeError>
+    requires can { CanMake (delta_of change) }
+    requires name { IsOf store.now (effect_of (delta_of change)) }
+    requires version { IsVersionNumber version }
+    ensures made { OnOk result (items.new ≡ finite.insert items.old db
+        (database_with version (stores_made (effect_of (delta_of change)) stores))) }
+    ensures found { OnOk result (stores_find (effect_of (delta_of change)) stores ≡ true) }
+    ensures missing { IsErrOf result ChangeError.Missing
+        → stores_find (effect_of (delta_of change)) stores ≡ false }
+    ensures broken { IsErrOf result ChangeError.Constraint
+        → breaks (store_made (effect_of (delta_of change)) stores) ≡ true }
+    ensures unmissed { IsErrOf result ChangeError.Missing
+        → items.new ≡ finite.insert items.old db (database_with version stores) }
+    ensures unbroken { IsErrOf result ChangeError.Constraint
+        → items.new ≡ finite.insert items.old db (database_with version stores) }
+{
+    let mut stores = stores;
+    let said = change_store(alloc, &mut stores, store, change);
+    put_database(items, db, version, stores)?;
+    said
 }
 
 /// The database has this version; where there was none, it is new. After want of memory the databases may lack some.
@@ -140,7 +186,10 @@ fn drop_database<T: Tables>(items: &mut Databases<T>, db: &Text) -> Result<(), C
 {
     match take_database(items, db) {
         None => Err(ChangeError::Missing),
-        Some(_) => Ok(()),
+        Some(database) => {
+            drop(database);
+            Ok(())
+        }
     }
 }
 
@@ -162,10 +211,15 @@ fn create_store<T: Tables>(
     ensures unmissed { IsErrOf result ChangeError.Missing → items.new ≡ items.old }
 {
     match take_database(items, &db) {
-        None => Err(ChangeError::Missing),
+        None => {
+            drop(info);
+            drop(db);
+            Err(ChangeError::Missing)
+        }
         Some((version, stores)) => {
             let mut stores = stores;
             if has_store(&stores, &info.name) {
+                drop(info);
                 put_database(items, db, version, stores)?;
                 return Err(ChangeError::Missing);
             }

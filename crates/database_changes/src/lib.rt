@@ -9,6 +9,3 @@ mod names;
 mod stores;
 
 pub use databases::change_databases;
-
-#[cfg(test)]
-mod tests;

@@ -4,7 +4,8 @@ ghost use Rattle.std.specs.FinMap as finite;
 ghost use Rattle.idb_schema.specs.Definitions.{IsStoreInfo};
 ghost use Rattle.idb_calls.specs.View.{delta_of};
 ghost use Rattle.item_changes.specs.Effects.{effect_of};
-ghost use Rattle.store_changes.specs.Making.{CanMake, breaks};
+ghost use Rattle.object_stores.specs.Store.{Store};
+ghost use Rattle.store_changes.specs.Making.{CanMake, is_found_in, left_of, breaks};
 ghost use Rattle.database_changes.specs.StoreChanges.{IsOf, stores_find, stores_made, store_made};
 
 use clone_values::Text;
@@ -42,7 +43,10 @@ pub(crate) fn drop_from<T: Tables>(stores: &mut Versions<T>, name: &Text) -> boo
     ensures left { stores.new ≡ finite.remove stores.old name.now }
 {
     match stores.remove(name) {
-        Some(_) => true,
+        Some(store) => {
+            drop(store);
+            true
+        }
         None => false,
     }
 }
@@ -76,7 +80,7 @@ fn put_store<T: Tables>(
     name: &Text,
     store: StoreVersion<T>,
 ) -> Result<(), NoMemory>
-    requires { store.store.info.name ≡ name.now }
+    requires named { store.store.info.name ≡ name.now }
     ensures { OnOk result (stores.new ≡ finite.insert stores.old name.now store.store) }
 {
     let _ = name;
@@ -102,25 +106,39 @@ pub(crate) fn change_store<T: Tables>(
     ensures unbroken { IsErrOf result ChangeError.Constraint → stores.new ≡ stores.old }
 {
     match take_store(stores, name) {
-        None => Err(ChangeError::Missing),
-        Some(store) => {
-            let mut store = store;
-            match make_change(alloc, &mut store, change) {
-                Ok(()) => {
-                    store.settle();
-                    put_store(stores, name, store)?;
-                    Ok(())
-                }
-                Err(ChangeError::Missing) => {
-                    put_store(stores, name, store)?;
-                    Err(ChangeError::Missing)
-                }
-                Err(ChangeError::Constraint) => {
-                    put_store(stores, name, store)?;
-                    Err(ChangeError::Constraint)
-                }
-                Err(ChangeError::NoMemory) => Err(ChangeError::NoMemory),
-            }
+        None => {
+            drop(change);
+            Err(ChangeError::Missing)
         }
+        Some(store) => change_taken(alloc, stores, name, store, change),
     }
+}
+
+/// Changes a store that was taken out, and puts it back.
+fn change_taken<T: Tables>(
+    alloc: Global,
+    stores: &mut Versions<T>,
+    name: &Text,
+    store: StoreVersion<T>,
+    change: Delta,
+) -> Result<(), ChangeError>
+    requires can { CanMake (delta_of change) }
+    requires named { store.store.info.name ≡ name.now }
+    ensures made { OnOk result ((new : Store) × (left_of (effect_of (delta_of change)) store.store ≡ Some new)
+        × (stores.new ≡ finite.insert stores.old name.now new)) }
+    ensures found { OnOk result (is_found_in (effect_of (delta_of change)) store.store ≡ true) }
+    ensures missing { IsErrOf result ChangeError.Missing
+        → is_found_in (effect_of (delta_of change)) store.store ≡ false }
+    ensures broken { IsErrOf result ChangeError.Constraint
+        → breaks (left_of (effect_of (delta_of change)) store.store) ≡ true }
+    ensures unmissed { IsErrOf result ChangeError.Missing
+        → stores.new ≡ finite.insert stores.old name.now store.store }
+    ensures unbroken { IsErrOf result ChangeError.Constraint
+        → stores.new ≡ finite.insert stores.old name.now store.store }
+{
+    let mut store = store;
+    let said = make_change(alloc, &mut store, change);
+    store.settle();
+    put_store(stores, name, store)?;
+    said
 }

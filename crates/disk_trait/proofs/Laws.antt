@@ -19,6 +19,7 @@ other_twice One = refl
 pub begins : {disk : DiskView} {P : Areas → Type 0} → ((image : Areas) → disk.left_since disk.moment image → disk.may_leave image)
     → EachImage disk P → LeavesOnly disk disk P
 begins {disk} only_now here = record {
+  started = refl;
   told = refl;
   later = omega arith;
   each = λ image left. here image (only_now image left);
@@ -28,6 +29,7 @@ begins {disk} only_now here = record {
 -- one call more, each image after which has P
 pub goes_on : {old mid new : DiskView} {P : Areas → Type 0} → LeavesOnly old mid P → Elapses mid new → EachImage new P → LeavesOnly old new P
 goes_on {old} so_far time here = record {
+  started = time.started ∙ so_far.started;
   told = time.told ∙ so_far.told;
   later = omega (arith, so_far.later, time.later);
   each = λ image left. ⊎_elim (so_far.each image) (here image) (time.nothing_else old.moment image so_far.later left);
@@ -37,6 +39,7 @@ goes_on {old} so_far time here = record {
 -- two runs, one after the other
 pub joins : {old mid new : DiskView} {P : Areas → Type 0} → LeavesOnly old mid P → LeavesOnly mid new P → LeavesOnly old new P
 joins {old} first second = record {
+  started = second.started ∙ first.started;
   told = second.told ∙ first.told;
   later = omega (arith, first.later, second.later);
   each = λ image left. ⊎_elim (first.each image) (λ p. p) (second.before old.moment image first.later left);
@@ -46,6 +49,7 @@ joins {old} first second = record {
 -- a run that leaves only what has P leaves only what has Q, where each image with P has Q
 pub widens : {old new : DiskView} {P Q : Areas → Type 0} → LeavesOnly old new P → ((image : Areas) → P image → Q image) → LeavesOnly old new Q
 widens run wider = record {
+  started = run.started;
   told = run.told;
   later = run.later;
   each = λ image left. wider image (run.each image left);
@@ -63,7 +67,7 @@ untouched_yet disk = record {
   same_reads = refl;
   same_lengths = λ area. refl;
   same_images = record { none_new = λ image left. left; none_gone = λ image left. left };
-  time = record { told = refl; later = omega arith; nothing_else = λ t image le left. inl left; keeps = λ t image le left. left };
+  time = record { started = refl; told = refl; later = omega arith; nothing_else = λ t image le left. inl left; keeps = λ t image le left. left };
 }
 
 pub untouched_twice : {old mid new : DiskView} → Untouched old mid → Untouched mid new → Untouched old new
@@ -75,6 +79,7 @@ untouched_twice first second = record {
     none_gone = λ image left. second.same_images.none_gone image (first.same_images.none_gone image left);
   };
   time = record {
+    started = second.time.started ∙ first.time.started;
     told = second.time.told ∙ first.time.told;
     later = omega (arith, first.time.later, second.time.later);
     nothing_else = λ t image le left. ⊎_elim

@@ -1,7 +1,7 @@
 -- What a disk is, what its calls do to its areas, and what a stop may leave of them. Between two successful syncs of an
 -- area each written range, and all past the old end, may hold any bytes after a stop, and a cut may or may not have
 -- happened. All other bytes stay. Each call is one step of that: an image after the call comes from one before it.
-use Rattle.std.specs.Prelude.{◌≡◌, ◌⊎◌, ℕ, ◌+◌, ◌≤◌, min, max, List, ◌++◌, length, take, drop, Option, Some, is_some}
+use Rattle.std.specs.Prelude.{◌≡◌, ◌⊎◌, ℕ, ◌+◌, ◌≤◌, min, max, List, ◌++◌, length, take, drop, Option, Some, is_some, Result, is_ok, if◌then◌else◌}
 use Rattle.disk_trait.specs.declared.area.Area.{Area}
 use Rattle.disk_trait.specs.Areas.{Areas, area_of, other_area}
 
@@ -18,6 +18,8 @@ pub record DiskView : Type 1 where
   pub moment : ℕ
   -- the images that a stop at some moment from that one on may have left, within a call or between two
   pub left_since : ℕ → Areas → Type 0
+  -- how often the disk was started again
+  pub starts : ℕ
   -- how often the disk has failed; each call answers Failed only where this rose
   pub faults : ℕ
 
@@ -104,16 +106,28 @@ pub record Shortens (area : Area) (len : ℕ) (old new : DiskView) : Type 0 wher
   pub here : (new.lengths area ≡ old.lengths area) ⊎ (new.lengths area ≡ len)
   pub elsewhere : new.lengths (other_area area) ≡ old.lengths (other_area area)
 
--- Time goes on over a call: what reads give is told if it was, and a stop at a moment since t, also one within the
--- call, may have left what it may have left before the call, or what it may leave now, and nothing else.
-pub record Elapses (old new : DiskView) : Type 0 where
+-- how often the disk was started, after a call that starts it where it answers Ok
+abbrev pub starts_after : {T E : Type 0} → Result T E → ℕ → ℕ
+starts_after result starts = if is_ok result then starts + 1 else starts
+
+-- Time goes on over a call, after which the disk was started so often: what reads give is told if it was, and a stop at
+-- a moment since t, also one within the call, may have left what it may have left before the call, or what it may leave
+-- now, and nothing else.
+pub record ElapsesTo (starts : ℕ) (old new : DiskView) : Type 0 where
+  pub started : new.starts ≡ starts
   pub told : is_some new.reads ≡ is_some old.reads
   pub later : old.moment ≤ new.moment
   pub nothing_else : (t : ℕ) (image : Areas) → t ≤ old.moment → new.left_since t image → old.left_since t image ⊎ new.may_leave image
   pub keeps : (t : ℕ) (image : Areas) → t ≤ old.moment → old.left_since t image → new.left_since t image
 
--- A stop at any moment since old leaves an image that has P. What reads give is told if it was.
+-- time goes on over a call that doesn't start the disk again
+abbrev pub Elapses : (old new : DiskView) → Type 0
+Elapses old new = ElapsesTo old.starts old new
+
+-- A stop at any moment since old leaves an image that has P. What reads give is told if it was, and the disk isn't
+-- started again.
 pub record LeavesOnly (old new : DiskView) (P : Areas → Type 0) : Type 0 where
+  pub started : new.starts ≡ old.starts
   pub told : is_some new.reads ≡ is_some old.reads
   pub later : old.moment ≤ new.moment
   pub each : (image : Areas) → new.left_since old.moment image → P image

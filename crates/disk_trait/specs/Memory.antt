@@ -80,6 +80,15 @@ bytes_of (WasCut area len ∷ earlier) = bytes_of earlier
 bytes_of (Synced area ∷ earlier) = bytes_of earlier
 bytes_of (Restarted ∷ earlier) = bytes_of earlier
 
+-- how many restarts are among the changes
+abbrev pub starts_in : List Change → ℕ
+starts_in [] = 0
+starts_in (Wrote area from bytes ∷ earlier) = starts_in earlier
+starts_in (Missed area from n ∷ earlier) = starts_in earlier
+starts_in (WasCut area len ∷ earlier) = starts_in earlier
+starts_in (Synced area ∷ earlier) = starts_in earlier
+starts_in (Restarted ∷ earlier) = starts_in earlier + 1
+
 -- A disk in memory, as callers see it.
 pub record MemoryState : Type 0 where
   -- what reached the disk, the newest first
@@ -109,6 +118,7 @@ disk_view disk = record {
   may_leave = λ image. MayLeave disk.image disk.history image;
   moment = length disk.history;
   left_since = λ t image. LeftSince disk.image disk.history t image;
+  starts = starts_in disk.history;
   faults = disk.calls.faults;
 }
 

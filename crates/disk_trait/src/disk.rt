@@ -3,7 +3,7 @@ ghost use Rattle.std.specs.Prelude.{◌≡◌, ◌+◌, ◌-◌, ◌^◌, ◌≤
 ghost use Rattle.edge_traits.specs.Faults.{HasFaultCause};
 ghost use Rattle.disk_trait.specs.declared.area.Area.{Area};
 ghost use Rattle.disk_trait.specs.Areas.{Areas, area_of};
-ghost use Rattle.disk_trait.specs.Disk.{DiskView, Written, Torn, Shortened, Cut, OnArea, WhereTold, Leads, Follows, NoNewImage, SameImages, Pins, IsSettled, SameLengths, Lengthens, Shortens, Elapses, Untouched};
+ghost use Rattle.disk_trait.specs.Disk.{DiskView, Written, Torn, Shortened, Cut, OnArea, WhereTold, Leads, Follows, NoNewImage, SameImages, Pins, IsSettled, SameLengths, Lengthens, Shortens, starts_after, ElapsesTo, Elapses, Untouched};
 
 use crate::Area;
 use edge_traits::Failed;
@@ -12,8 +12,8 @@ use edge_traits::Failed;
 ///
 /// An area is at most 9,223,372,036,854,775,807 bytes long; a write past that is a counted fault.
 pub trait Disk {
-    /// What is said of a disk: what reads give, the lengths, what a stop may leave now and since a moment, and the
-    /// count of faults.
+    /// What is said of a disk: what reads give, the lengths, what a stop may leave now and since a moment, how often it
+    /// was started again, and the count of faults.
     ghost shows: { Self → DiskView };
 
     /// How often the disk has failed so far, as a number that a caller may keep.
@@ -85,7 +85,8 @@ pub trait Disk {
         ensures lengths { OnErr result (SameLengths (shows self.old) (shows self.new)) }
         ensures unsettled { OnErr result (SameImages (shows self.old).may_leave (shows self.new).may_leave) }
         ensures images { NoNewImage (shows self.old) (shows self.new) }
-        ensures time { Elapses (shows self.old) (shows self.new) }
+        ensures time { ElapsesTo (starts_after result (shows self.old).starts)
+            (shows self.old) (shows self.new) }
         ensures cause { HasFaultCause (shows self.old).faults (shows self.new).faults result };
 
     /// What reads give is itself an image.

@@ -15,8 +15,6 @@ mod note;
 mod over_calls;
 mod plan;
 mod synced;
-#[cfg(test)]
-mod tests;
 
 pub use area::Area;
 pub use disk::Disk;

@@ -26,10 +26,11 @@ IsSeen area = area.stand ≡ Unseen → ⊥
 abbrev pub IsNotedOf : NotedArea → Type 0
 IsNotedOf area = IfSome area.file (λ f. area.noted ≡ length f.held)
 
--- both areas, and how many calls failed
+-- both areas, how often they were started again, and how many calls failed
 pub record TwoFiles : Type 0 where
   pub zero : NotedArea
   pub one : NotedArea
+  pub starts : ℕ
   pub faults : ℕ
 
 -- one of the areas

@@ -3,7 +3,7 @@ use Rattle.std.specs.Prelude.{None}
 use Rattle.disk_trait.specs.Disk.{DiskView}
 use Rattle.edge_adapters.specs.Noted.{TwoFiles, noted_in}
 
--- Its noted lengths and its count of faults. Reads are untold, so there is no image that a stop is known to leave.
+-- Its noted lengths, its starts and its count of faults. Reads are untold, so there is no image that a stop is known to leave.
 abbrev pub untold_view : TwoFiles → DiskView
 untold_view disk = record {
   reads = None;
@@ -11,5 +11,6 @@ untold_view disk = record {
   may_leave = λ image. ⊥;
   moment = 0;
   left_since = λ t image. ⊥;
+  starts = disk.starts;
   faults = disk.faults;
 }

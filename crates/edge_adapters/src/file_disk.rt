@@ -2,7 +2,7 @@
 ghost use Rattle.std.specs.Prelude.{◌≡◌, ◌↔◌, ◌+◌, ◌-◌, ◌^◌, ◌≤◌, max, length, take, drop, IfSome, IsTrue, Ok, IfOk, IsOk, IsErr, OnOk, OnErr};
 ghost use Rattle.edge_traits.specs.Faults.{HasFaultCause};
 ghost use Rattle.disk_trait.specs.Areas.{other_area};
-ghost use Rattle.disk_trait.specs.Disk.{Written, Torn, Shortened, Cut};
+ghost use Rattle.disk_trait.specs.Disk.{Written, Torn, Shortened, Cut, starts_after};
 ghost use Rattle.edge_adapters.specs.Files.{BytesBecome, SameBytes};
 ghost use Rattle.edge_adapters.specs.Noted.{area_in, file_in, noted_in, SameNoted, IsSeen, IsNotedOf};
 
@@ -14,7 +14,7 @@ use disk_trait::{Area, Disk, Failed};
 use idb_base::NoMemory;
 use std::alloc::Global;
 use std::fs::File;
-use std::io;
+use std::io::{self, ErrorKind};
 use std::marker::Model;
 use std::path::Path;
 use std::rt::Files;
@@ -24,7 +24,8 @@ use std::rt::Files;
 ///
 /// Each error of the system that a call meets is a counted fault, and that call answers `Failed`. So it does where a read
 /// comes to an early end of the file, where a write takes nothing of some bytes or would go past
-/// 9,223,372,036,854,775,807 bytes, and where a file has another length than was noted.
+/// 9,223,372,036,854,775,807 bytes, where a file has another length than was noted, and where the disk would be started
+/// again more than 18,446,744,073,709,551,615 times.
 ///
 /// The length of an area is noted when the disk is made and at a `restart`; a file that isn't there has length 0. Each
 /// write and cut keeps it up. A file is opened at the first call that needs its bytes, and made then if its noted length
@@ -36,6 +37,7 @@ use std::rt::Files;
 pub struct FileDisk<F: AreaFile> {
     zero: FileArea<F>,
     one: FileArea<F>,
+    starts: u64,
     faults: u64,
 }
 
@@ -44,7 +46,7 @@ impl<F: AreaFile> Model for FileDisk<F> {
 
     ghost Value = { TwoFiles };
 
-    ghost view = { λ d. record { zero = d.zero; one = d.one; faults = d.faults } };
+    ghost view = { λ d. record { zero = d.zero; one = d.one; starts = d.starts; faults = d.faults } };
 }
 
 impl<R: Files<File = File> + Copy> FileDisk<SystemFile<R>> {
@@ -70,6 +72,7 @@ impl<F: AreaFile> FileDisk<F> {
         FileDisk {
             zero: FileArea::over(zero),
             one: FileArea::over(one),
+            starts: 0,
             faults: 0,
         }
     }
@@ -81,6 +84,7 @@ impl<F: AreaFile> FileDisk<F> {
         ensures failed { IsOk result ↔ IsSeen (area_in area self.old) }
         ensures zero { self.new.zero ≡ self.old.zero }
         ensures one { self.new.one ≡ self.old.one }
+        ensures starts { self.new.starts ≡ self.old.starts }
         ensures cause { HasFaultCause self.old.faults self.new.faults result }
     {
         let answer = match area {
@@ -99,6 +103,7 @@ impl<F: AreaFile> FileDisk<F> {
         ensures kept { BytesBecome SameBytes (file_in area self.old) (file_in area self.new) }
         ensures elsewhere { area_in (other_area area) self.new ≡ area_in (other_area area) self.old }
         ensures lengths { SameNoted self.old self.new }
+        ensures starts { self.new.starts ≡ self.old.starts }
         ensures cause { HasFaultCause self.old.faults self.new.faults result }
     {
         let answer = match area {
@@ -123,6 +128,7 @@ impl<F: AreaFile> FileDisk<F> {
         ensures limit { OnOk result (from + length bytes.now ≤ 2 ^ 63 - 1) }
         ensures no_shorter { noted_in area self.old ≤ noted_in area self.new }
         ensures no_longer { noted_in area self.new ≤ max (noted_in area self.old) (from + length bytes.now) }
+        ensures starts { self.new.starts ≡ self.old.starts }
         ensures cause { HasFaultCause self.old.faults self.new.faults result }
     {
         let answer = match area {
@@ -143,6 +149,7 @@ impl<F: AreaFile> FileDisk<F> {
 
         ensures length { OnOk result (noted_in area self.new ≡ len) }
         ensures noted { OnErr result (noted_in area self.new ≡ noted_in area self.old) }
+        ensures starts { self.new.starts ≡ self.old.starts }
         ensures cause { HasFaultCause self.old.faults self.new.faults result }
     {
         let answer = match area {
@@ -160,6 +167,7 @@ impl<F: AreaFile> FileDisk<F> {
         ensures kept { BytesBecome SameBytes (file_in area self.old) (file_in area self.new) }
         ensures elsewhere { area_in (other_area area) self.new ≡ area_in (other_area area) self.old }
         ensures lengths { SameNoted self.old self.new }
+        ensures starts { self.new.starts ≡ self.old.starts }
         ensures cause { HasFaultCause self.old.faults self.new.faults result }
     {
         let answer = match area {
@@ -177,13 +185,14 @@ impl<F: AreaFile> FileDisk<F> {
         ensures lengths { OnErr result (SameNoted self.old self.new) }
         ensures zero_kept { BytesBecome SameBytes self.old.zero.file self.new.zero.file }
         ensures one_kept { BytesBecome SameBytes self.old.one.file self.new.one.file }
+        ensures starts { self.new.starts ≡ starts_after result self.old.starts }
         ensures cause { HasFaultCause self.old.faults self.new.faults result }
     {
         let answer = self.noted_anew();
         self.counted(answer)
     }
 
-    // Closes both files and notes their lengths anew, or neither length.
+    // Closes both files and notes their lengths anew, or neither length, and counts the start.
     fn noted_anew(&mut self) -> io::Result<()>
         ensures zero { OnOk result (IsNotedOf self.new.zero) }
         ensures one { OnOk result (IsNotedOf self.new.one) }
@@ -191,12 +200,17 @@ impl<F: AreaFile> FileDisk<F> {
         ensures lengths { OnErr result (SameNoted self.old self.new) }
         ensures zero_kept { BytesBecome SameBytes self.old.zero.file self.new.zero.file }
         ensures one_kept { BytesBecome SameBytes self.old.one.file self.new.one.file }
+        ensures starts { self.new.starts ≡ starts_after result self.old.starts }
         ensures faults { self.new.faults ≡ self.old.faults }
     {
+        let Some(starts) = self.starts.checked_add(1) else {
+            return Err(ErrorKind::Other.into());
+        };
         let zero = self.zero.measured()?;
         let one = self.one.measured()?;
         self.zero.note(zero);
         self.one.note(one);
+        self.starts = starts;
         Ok(())
     }
 
@@ -206,6 +220,7 @@ impl<F: AreaFile> FileDisk<F> {
         ensures failed { IsErr result ↔ IsErr answer }
         ensures zero { self.new.zero ≡ self.old.zero }
         ensures one { self.new.one ≡ self.old.one }
+        ensures starts { self.new.starts ≡ self.old.starts }
         ensures cause { HasFaultCause self.old.faults self.new.faults result }
     {
         match answer {

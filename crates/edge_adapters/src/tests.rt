@@ -139,34 +139,101 @@ fn one_fault_in_mid_stream_is_told_and_the_next_call_goes_on(rt: HostRuntime) ->
     Ok(())
 }
 
+/// What is done to a disk over files, or to the files beside it.
+#[derive(Clone, Copy)]
+enum Act {
+    Call(Step),
+    RemoveFolder(&'static str),
+    Put(&'static str, &'static str),
+    /// The text of a file, or that there is none.
+    Show(&'static str),
+}
+
+fn show(rt: HostRuntime, said: &mut String, path: &str) -> Result<(), Fail> {
+    if fs::exists(&rt, path)? {
+        let text = fs::read_to_string(&rt, path)?;
+        write!(said, " [{text}]")?;
+    } else {
+        write!(said, " none")?;
+    }
+    Ok(())
+}
+
+/// Does it, and says how a call went.
+fn make_act<D: Disk>(
+    rt: HostRuntime,
+    said: &mut String,
+    disk: &mut D,
+    act: Act,
+) -> Result<(), Fail> {
+    match act {
+        Act::Call(step) => tell(said, disk, step)?,
+        Act::RemoveFolder(path) => fs::remove_dir_all(&rt, path)?,
+        Act::Put(path, text) => fs::write(&rt, path, text)?,
+        Act::Show(path) => show(rt, said, path)?,
+    }
+    Ok(())
+}
+
+/// Makes the folder anew, with a file of this name that holds a text and an inner folder, if they are named.
+fn make_folder(
+    rt: HostRuntime,
+    folder: &str,
+    file: Option<&'static str>,
+    inner: Option<&'static str>,
+) -> Result<(), Fail> {
+    let _ = fs::remove_dir_all(&rt, folder);
+    fs::create_dir(&rt, folder)?;
+    if let Some(file) = file {
+        fs::write(&rt, file, "abc")?;
+    }
+    if let Some(inner) = inner {
+        fs::create_dir(&rt, inner)?;
+    }
+    Ok(())
+}
+
+/// Does all acts, and says how the calls went and how many faults there were.
+fn done<D: Disk>(rt: HostRuntime, disk: &mut D, acts: &[Act]) -> Result<String, Fail> {
+    let mut said = String::new(rt.alloc());
+    for it in acts {
+        make_act(rt, &mut said, disk, *it)?;
+    }
+    write!(said, ", {}", disk.fault_count())?;
+    Ok(said)
+}
+
+use Act::{Call, Put, RemoveFolder, Show};
+
 const FOLDER: &str = "edge_adapters_files";
 
 // No file is made before it is needed, and each area is in its own file.
 #[test]
 fn a_folder_keeps_two_files(rt: HostRuntime) -> Result<(), Fail> {
+    make_folder(rt, FOLDER, None, None)?;
     let alloc = rt.alloc();
-    let _ = fs::remove_dir_all(&rt, FOLDER);
-    fs::create_dir(&rt, FOLDER)?;
     let mut disk = FileDisk::in_folder(alloc, rt, Text::copy_of(alloc, FOLDER)?)?;
-    let steps = [Step::Len(Area::Zero), Step::Read(Area::One, 0, 0)];
-    assert_eq!(rt; told(alloc, &mut disk, &steps)?.as_str(), " 0 , 0");
-    assert!(rt; !fs::exists(&rt, "edge_adapters_files/idb.0")?);
-    let steps = [
-        Step::Write(Area::Zero, 0, b"abcdef"),
-        Step::Write(Area::Zero, 4, b"EFGH"),
-        Step::Cut(Area::Zero, 7),
-        Step::Sync(Area::Zero),
-        Step::Write(Area::One, 0, b"1"),
-        Step::Sync(Area::One),
-        Step::Read(Area::Zero, 3, 4),
-        Step::Read(Area::One, 0, 1),
+    let acts = [
+        Call(Step::Len(Area::Zero)),
+        Call(Step::Read(Area::One, 0, 0)),
+        Show("edge_adapters_files/idb.0"),
+        Call(Step::Write(Area::Zero, 0, b"abcdef")),
+        Call(Step::Write(Area::Zero, 4, b"EFGH")),
+        Call(Step::Cut(Area::Zero, 7)),
+        Call(Step::Sync(Area::Zero)),
+        Call(Step::Write(Area::One, 0, b"1")),
+        Call(Step::Sync(Area::One)),
+        Call(Step::Read(Area::Zero, 3, 4)),
+        Call(Step::Read(Area::One, 0, 1)),
+        Show("edge_adapters_files/idb.0"),
+        Show("edge_adapters_files/idb.1"),
+        RemoveFolder("edge_adapters_files"),
     ];
-    let said = told(alloc, &mut disk, &steps)?;
-    assert_eq!(rt; said.as_str(), " done done done done done done dEFG 1, 0");
-    let zero = fs::read_to_string(&rt, "edge_adapters_files/idb.0")?;
-    let one = fs::read_to_string(&rt, "edge_adapters_files/idb.1")?;
-    assert_eq!(rt; (zero.as_str(), one.as_str()), ("abcdEFG", "1"));
-    fs::remove_dir_all(&rt, FOLDER)?;
+    let said = done(rt, &mut disk, &acts)?;
+    assert_eq!(rt;
+        said.as_str(),
+        " 0  none done done done done done done dEFG 1 [abcdEFG] [1], 0"
+    );
     Ok(())
 }
 
@@ -175,40 +242,32 @@ const CHANGED: &str = "edge_adapters_changed";
 // A file that was changed since its length was noted, one that is gone, and what is no file.
 #[test]
 fn a_file_that_differs_from_what_was_noted_is_a_fault(rt: HostRuntime) -> Result<(), Fail> {
+    let (file, inner) = ("edge_adapters_changed/idb.0", "edge_adapters_changed/idb.1");
+    make_folder(rt, CHANGED, Some(file), Some(inner))?;
     let alloc = rt.alloc();
-    let _ = fs::remove_dir_all(&rt, CHANGED);
-    fs::create_dir(&rt, CHANGED)?;
-    fs::write(&rt, "edge_adapters_changed/idb.0", "abc")?;
-    fs::create_dir(&rt, "edge_adapters_changed/idb.1")?;
     let mut disk = FileDisk::in_folder(alloc, rt, Text::copy_of(alloc, CHANGED)?)?;
-    fs::write(&rt, "edge_adapters_changed/idb.0", "abcd")?;
-    let steps = [
-        Step::Len(Area::Zero),
-        Step::Read(Area::Zero, 0, 3),
-        Step::Len(Area::One),
-        Step::Restart,
-        Step::Len(Area::Zero),
+    let acts = [
+        Put("edge_adapters_changed/idb.0", "abcd"),
+        Call(Step::Len(Area::Zero)),
+        Call(Step::Read(Area::Zero, 0, 3)),
+        Call(Step::Len(Area::One)),
+        Call(Step::Restart),
+        Call(Step::Len(Area::Zero)),
+        RemoveFolder("edge_adapters_changed/idb.1"),
+        Call(Step::Restart),
+        Call(Step::Read(Area::Zero, 0, 4)),
+        Call(Step::Len(Area::One)),
+        Call(Step::Restart),
+        RemoveFolder("edge_adapters_changed"),
+        Call(Step::Read(Area::Zero, 0, 4)),
+        Call(Step::Write(Area::One, 0, b"1")),
+        Show("edge_adapters_changed/idb.1"),
     ];
-    let said = told(alloc, &mut disk, &steps)?;
-    assert_eq!(rt; said.as_str(), " 3 failed unseen failed 3, 3");
-    fs::remove_dir(&rt, "edge_adapters_changed/idb.1")?;
-    let steps = [
-        Step::Restart,
-        Step::Read(Area::Zero, 0, 4),
-        Step::Len(Area::One),
-    ];
-    assert_eq!(rt; told(alloc, &mut disk, &steps)?.as_str(), " done abcd 0, 3");
-    assert!(rt; disk.restart().is_ok());
-    fs::remove_dir_all(&rt, CHANGED)?;
-    let steps = [
-        Step::Read(Area::Zero, 0, 4),
-        Step::Write(Area::One, 0, b"1"),
-    ];
+    let said = done(rt, &mut disk, &acts)?;
     assert_eq!(rt;
-        told(alloc, &mut disk, &steps)?.as_str(),
-        " failed failed, 5"
+        said.as_str(),
+        " 3 failed unseen failed 3 done abcd 0 done failed failed none, 5"
     );
-    assert!(rt; !fs::exists(&rt, CHANGED)?);
     Ok(())
 }
 

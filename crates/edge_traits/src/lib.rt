@@ -11,8 +11,6 @@ mod memory_sinks;
 mod memory_sources;
 mod sinks;
 mod sources;
-#[cfg(test)]
-mod tests;
 
 pub use call_plans::CallPlan;
 pub use gates::{Gate, OpenGate};

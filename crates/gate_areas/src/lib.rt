@@ -28,6 +28,3 @@ pub use scan::Scan;
 pub use sealing::seal;
 pub use survey::{Survey, find_live, survey_areas};
 pub use sync::sync_both;
-
-#[cfg(test)]
-mod tests;

@@ -92,6 +92,7 @@ struct Silent {
     files: Files,
     zero: u64,
     one: u64,
+    starts: u64,
     faults: u64,
     ghost limit_zero: { zero ≤ 2 ^ 63 - 1 },
     ghost limit_one: { one ≤ 2 ^ 63 - 1 },
@@ -108,6 +109,7 @@ impl Silent {
             files,
             zero,
             one,
+            starts: 0,
             faults: 0,
         })
     }
@@ -125,6 +127,7 @@ impl Silent {
     fn fault(&mut self) -> Failed
         ensures zero { self.new.zero ≡ self.old.zero }
         ensures one { self.new.one ≡ self.old.one }
+        ensures starts { self.new.starts ≡ self.old.starts }
         ensures rose { Rose self.old.faults self.new.faults }
         ensures count { self.old.faults ≤ self.new.faults }
     {
@@ -137,7 +140,7 @@ impl Disk for Silent {
     ghost use Rattle.std.specs.Prelude.{ℕ};
     ghost use Rattle.gate_log.specs.Silent.{silent_view};
 
-    ghost shows = { λ d. silent_view d.zero d.one d.faults };
+    ghost shows = { λ d. silent_view d.zero d.one d.starts d.faults };
 
     ghost reads_are_an_image = { λ d areas told. absurd (cc) };
 
@@ -197,11 +200,12 @@ impl Disk for Silent {
     fn restart(&mut self) -> Result<(), Failed> {
         let zero = self.files.size(Area::Zero);
         let one = self.files.size(Area::One);
-        if zero > LONGEST || one > LONGEST {
+        if zero > LONGEST || one > LONGEST || self.starts == u64::MAX {
             return Err(self.fault());
         }
         self.zero = zero;
         self.one = one;
+        self.starts += 1;
         Ok(())
     }
 }

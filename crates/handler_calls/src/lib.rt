@@ -13,6 +13,3 @@ pub use cancelling::cancel;
 pub use handling::{cancel_all, handle};
 pub use laws_of_attending::attending_laws;
 pub use verdicts::verdict;
-
-#[cfg(test)]
-mod tests;

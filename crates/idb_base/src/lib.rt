@@ -7,8 +7,6 @@
 mod limits;
 mod listed;
 mod memory;
-#[cfg(test)]
-mod tests;
 
 pub use limits::{
     GREATEST_DATE, GREATEST_DEPTH, GREATEST_INT, GREATEST_LENGTH, LEAST_DATE, LEAST_INT,

@@ -16,6 +16,3 @@ pub use deltas::{Delta, Deltas};
 pub use events::{Event, Events};
 pub use orders::{Pending, PendingLines, Token, Tokens};
 pub use traces::{GREATEST_DELTA_COUNT, Outcome, TxTrace};
-
-#[cfg(test)]
-mod tests;

@@ -14,6 +14,3 @@ mod turns;
 pub use cursor::Cursor;
 pub use cursor_laws::{turn_laws, visit_laws};
 pub use row_view::{RecordsShown, RowView, RowsShown};
-
-#[cfg(test)]
-mod tests;

@@ -13,6 +13,3 @@ pub use databases::{Database, Databases};
 pub use limits::{GREATEST_DATABASE_COUNT, GREATEST_STORE_COUNT, GREATEST_VERSION};
 pub use named::{find_in, place_in};
 pub use versions::Versions;
-
-#[cfg(test)]
-mod tests;

@@ -45,7 +45,7 @@ pending_id p = record { client = p.client; request = p.request }
 -- in its place by client and request
 abbrev pub put_pending : Pending → List Pending → List Pending
 put_pending p [] = p ∷ []
-put_pending p (q ∷ qs) = if is_lt (by_id_order (pending_id p) (pending_id q)) then p ∷ q ∷ qs else q ∷ put_pending p qs
+put_pending p (q ∷ qs) = if is_lt (by_id_order (pending_id q) (pending_id p)) then q ∷ put_pending p qs else p ∷ q ∷ qs
 
 abbrev pub sorted_pending : List Pending → List Pending
 sorted_pending [] = []

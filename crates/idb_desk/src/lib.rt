@@ -24,6 +24,3 @@ pub use desk::Desk;
 pub use laws_of_desks::{desk_laws, durability_laws, item_laws, quiet_laws};
 pub use stands::{DeskPlace, DeskRequest, DrawnTx, Stand, TxKind, TxStage};
 pub use steps::DeskStep;
-
-#[cfg(test)]
-mod tests;

@@ -1,10 +1,8 @@
 // The steps as a report lists them, and the opens and deletes that aren't answered.
-ghost use Rattle.std.specs.Prelude.{◌≡◌, ◌<◌, ◌≤◌, ℕ, Bool, true, false, [], ◌∷◌, ◌++◌, map, drop, length, insert, position, OnOk, OnErr, IfOk, Some, None};
+ghost use Rattle.std.specs.Prelude.{◌≡◌, ◌<◌, ◌≤◌, ℕ, Bool, true, false, [], ◌∷◌, ◌++◌, map, drop, length, OnOk, OnErr, IfOk, Some, None};
 ghost use Rattle.std.specs.List.{flat_map};
-ghost use Rattle.std.specs.Ordering.{is_lt};
-ghost use Rattle.name_queues.specs.Ids.{by_id_order};
 ghost use Rattle.idb_desk.specs.Tokens.{token_of};
-ghost use Rattle.idb_desk.specs.Waiting.{pending_on, front_waits, queue_pending, pending_of_name, pending_id, put_pending, sorted_pending};
+ghost use Rattle.idb_desk.specs.Waiting.{pending_on, front_waits, queue_pending, pending_of_name, sorted_pending};
 
 use crate::steps::DeskStep;
 use idb_base::NoMemory;
@@ -93,39 +91,12 @@ fn push_names(lines: &mut Vec<Pending>, names: &[Named]) -> Result<(), NoMemory>
     Ok(())
 }
 
-/// One stands before the other, by client and request.
-fn comes_before(p: Pending, q: Pending) -> bool
-    ensures { result ≡ is_lt (by_id_order (pending_id p) (pending_id q)) }
-{
-    p.client < q.client || (p.client == q.client && p.request < q.request)
-}
-
-/// The place before which it belongs.
-fn place_of(p: Pending, lines: &[Pending]) -> Option<usize>
-    ensures { result ≡ position (λ q. is_lt (by_id_order (pending_id p) (pending_id q))) lines.now }
-{
-    lines.iter().position(|q| comes_before(p, *q))
-}
-
-/// Puts it in its place.
-fn put_pending(lines: &mut Vec<Pending>, p: Pending) -> Result<(), NoMemory>
-    ensures { OnOk result (lines.new.items ≡ put_pending p lines.old.items) }
-{
-    match place_of(p, lines.as_slice()) {
-        Some(place) => lines.insert(place, p)?,
-        None => lines.push(p)?,
-    }
-    Ok(())
-}
-
-fn sorted_pending(alloc: Global, lines: Vec<Pending>) -> Result<Vec<Pending>, NoMemory>
+/// By client and request.
+fn sorted_pending(lines: Vec<Pending>) -> Result<Vec<Pending>, NoMemory>
     ensures { IfOk result (λ sorted. sorted.items ≡ sorted_pending lines.items) }
 {
-    let mut left = lines;
-    let mut sorted = Vec::new(alloc);
-    while let Some(p) = left.pop() {
-        put_pending(&mut sorted, p)?;
-    }
+    let mut sorted = lines;
+    sorted.sort_by_key(|p| (p.client, p.request))?;
     Ok(sorted)
 }
 
@@ -135,5 +106,5 @@ pub(crate) fn pending_of(alloc: Global, names: &[Named]) -> Result<PendingLines,
 {
     let mut lines = Vec::new(alloc);
     push_names(&mut lines, names)?;
-    Ok(PendingLines::from_vec(sorted_pending(alloc, lines)?))
+    Ok(PendingLines::from_vec(sorted_pending(lines)?))
 }

@@ -9,6 +9,3 @@ mod ranges;
 
 pub use names::{Direction, Durability, ErrorName, Mode, Over};
 pub use ranges::{KeyRange, RangeError, bound_laws, key_range_laws};
-
-#[cfg(test)]
-mod tests;

@@ -14,6 +14,3 @@ pub use error::RecoverError;
 pub use lines::{AreaFound, BatchLine, BatchLines};
 pub use looking::{Looked, look};
 pub use recovery::{Opened, recover};
-
-#[cfg(test)]
-mod tests;

@@ -20,6 +20,3 @@ pub use definition_lists::{IndexInfos, StoreInfos};
 pub use definitions::{IndexInfo, StoreInfo};
 pub use identities::{IndexId, StoreId};
 pub use schema_laws::{change_laws, given_laws, id_laws, name_laws, sound_laws};
-
-#[cfg(test)]
-mod tests;

@@ -15,6 +15,3 @@ pub use index::IndexTable;
 pub use meanings::{change_laws, record_laws, row_laws, unique_laws};
 pub use rows::{Row, Rows};
 pub use tables::{FlatTables, Tables};
-
-#[cfg(test)]
-mod tests;

@@ -22,6 +22,3 @@ pub use emptying::Emptied;
 pub use index_error::IndexError;
 pub use records::IndexedRecords;
 pub use row_lists::{RowLists, plus};
-
-#[cfg(test)]
-mod tests;

@@ -7,6 +7,3 @@
 mod generators;
 
 pub use generators::{Exhausted, Generator, LAST_NUMBER, generator_laws};
-
-#[cfg(test)]
-mod tests;

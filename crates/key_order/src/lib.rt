@@ -135,6 +135,3 @@ pub fn key_order_laws()
         → (u : ℕ) × (v : ℕ) × DifferAt (code_units s) (code_units t) u v
         × (SurrogateMeetsHigh u v ⊎ SurrogateMeetsHigh v u) }
 {}
-
-#[cfg(test)]
-mod tests;

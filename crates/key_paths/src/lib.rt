@@ -15,6 +15,3 @@ pub use conversion::{conversion_laws, is_key, to_key, to_value};
 pub use evaluation::evaluate;
 pub use extraction::{Extracted, Extraction, extract, extraction_laws, would_extract};
 pub use injection::{could_inject, has_room, inject, injection_laws};
-
-#[cfg(test)]
-mod tests;

@@ -10,6 +10,3 @@ mod sizes;
 mod table;
 
 pub use table::LeafTable;
-
-#[cfg(test)]
-mod tests;

@@ -3,7 +3,7 @@ use Rattle.std.proofs.Common.{◌≡◌, List, [], ◌∷◌, map, refl, sym, su
 use Rattle.std.specs.List.Sorted.{IsPermutation}
 use Rattle.std.proofs.lemmas.List.Sorted.{IsPermutation-map}
 use Rattle.idb_desk.specs.declared.steps.DeskStep.{DeskStep}
-use Rattle.serial_order.specs.FinishEntries.{FinishEntry}
+use Rattle.client_machine.specs.FinishEntries.{FinishEntry}
 use Rattle.script_runs.specs.declared.notes.Note.{Note}
 use Rattle.script_handlers.specs.Handling.{Script}
 use Rattle.legal_sessions.specs.SerialResults.{BegunTx, number_of_begun, number_of_entry, AreEntriesOf}

@@ -14,7 +14,7 @@ use Rattle.idb_desk.specs.declared.steps.DeskStep.{DeskStep}
 use Rattle.idb_desk.specs.Steps.{DeskRun, desk_run}
 use Rattle.item_changes.specs.Items.{Name, Database, Items}
 use Rattle.machine_laws.specs.Keeping.{Shows}
-use Rattle.serial_order.specs.FinishEntries.{FinishEntry}
+use Rattle.client_machine.specs.FinishEntries.{FinishEntry}
 use Rattle.script_statements.specs.declared.script.Client.{Client}
 use Rattle.script_runs.specs.declared.notes.Note.{Note}
 use Rattle.script_handlers.specs.Handling.{Script}

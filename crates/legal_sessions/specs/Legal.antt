@@ -4,10 +4,14 @@
 --     items_at_end          the databases that the session leaves
 --     commits_of            the transactions that committed and may write, as they finished
 --     record_of_entry, records_logged       what the log is told of a transaction;  of those that committed and may write
+--     is_fault, is_in_doubt         a step of the desk that faults the host;  an outcome in doubt
 --     commit_at, commits_at         a record with the durability of its transaction, by the order of steps;  each of them
+--     records_in_doubt      what the log would have been told of a transaction in doubt
+--     EndsSo                how the log ends: at the commit in doubt, where there is one; else it is dropped, or flushed, as the session says
+--     report_end            as the report says it
 --     IsReportOf            a report says what a legal session did
---     IsLegalReport         there is such a session, with these commits
-use Rattle.std.specs.Prelude.{◌≡◌, ℕ, Bool, true, false, not, ◌&&◌, List, [], ◌∷◌, map, filter, if◌then◌else◌, ⊤}
+--     IsLegalReport         there is such a session, with these commits and this end of its log
+use Rattle.std.specs.Prelude.{◌≡◌, ◌⊎◌, ℕ, Bool, true, false, not, ◌&&◌, List, [], ◌∷◌, map, filter, ⊤}
 use Rattle.std.specs.Bool.{MatchBool}
 use Rattle.std.specs.List.{list_any, AllByRecursion}
 use Rattle.std.specs.FinMap as finite
@@ -22,14 +26,15 @@ use Rattle.idb_desk.specs.Waiting.{pending_of}
 use Rattle.item_changes.specs.Items.{Name, Database, Items}
 use Rattle.record_bytes.specs.declared.records.LogRecord.{LogRecord}
 use Rattle.log_history.specs.Batching.{Commit, is_strict}
+use Rattle.log_history.specs.Kept.{End, Dropped, Flushed, FailedCommit, FailedFlush, FailedCheckpoint}
 use Rattle.request_lists.specs.Fronts.{is_read_only_mode}
 use Rattle.report_lines.specs.declared.reports.Report.{Report}
 use Rattle.report_lines.specs.declared.reports.Has.{Has}
 use Rattle.report_lines.specs.declared.reports.ReportEnd.{ReportEnd}
 use Rattle.report_lines.specs.declared.reports.ReportEnd.TheVariants as end
-use Rattle.serial_order.specs.FinishEntries.{TxBody, Scripted, Deletion, FinishEntry, did_commit}
-use Rattle.serial_order.specs.SerialRuns.{items_after}
-use Rattle.serial_order.specs.NumberOrder.{IsInOrder, by_number}
+use Rattle.client_machine.specs.FinishEntries.{TxBody, Scripted, Deletion, FinishEntry, did_commit}
+use Rattle.client_machine.specs.SerialRuns.{items_after}
+use Rattle.client_machine.specs.NumberOrder.{IsInOrder, by_number}
 use Rattle.script_statements.specs.declared.script.ScriptSession.{ScriptSession}
 use Rattle.script_runs.specs.declared.notes.Note.{Note}
 use Rattle.script_handlers.specs.Handling.{Script}
@@ -69,7 +74,7 @@ pub record IsLegal (session : ScriptSession) (opening : Items) (h : SessionHisto
 abbrev pub items_at_end : Items → SessionHistory → Items
 items_at_end opening h = items_after opening (by_number h.finish)
 
--- ---- the report
+-- ---- what is told
 abbrev pub has_of : Name × Database → Has
 has_of e = record { name = e.0; version = e.1.version }
 
@@ -93,14 +98,28 @@ commit_at order r = record { strict = is_strict (durability_drawn order r.number
 abbrev pub commits_at : List DeskStep → List LogRecord → List Commit
 commits_at order records = map (commit_at order) records
 
-abbrev pub own_end : Bool → ReportEnd
-own_end drop_end = if drop_end then end.Drop else end.Flush
+abbrev pub in_doubt_of : List (FinishEntry Script Note) → List (FinishEntry Script Note)
+in_doubt_of finish = filter (λ e. is_in_doubt e.outcome) finish
 
--- where the host is faulted the session ends by that
-abbrev pub end_of_session : ScriptSession → SessionHistory → ReportEnd
-end_of_session session h = if list_any is_fault h.order then end.Fault else own_end session.drop_end
+abbrev pub records_in_doubt : List (FinishEntry Script Note) → List LogRecord
+records_in_doubt finish = map record_of_entry (in_doubt_of finish)
 
-pub record IsReportOf (of : ScriptSession) (number : ℕ) (items : Items) (h : SessionHistory) (report : Report) : Type 0 where
+-- ---- the end
+-- its last flush may meet a fault
+abbrev pub EndsSo : Bool → List Commit → End → Type 0
+EndsSo drop_end (c ∷ cs) log_end = log_end ≡ FailedCommit c
+EndsSo true [] log_end = log_end ≡ Dropped
+EndsSo false [] log_end = (log_end ≡ Flushed) ⊎ (log_end ≡ FailedFlush)
+
+abbrev pub report_end : End → ReportEnd
+report_end Dropped = end.Drop
+report_end Flushed = end.Flush
+report_end (FailedCommit c) = end.Fault
+report_end FailedFlush = end.Fault
+report_end FailedCheckpoint = end.Fault
+
+-- ---- the report
+pub record IsReportOf (of : ScriptSession) (number : ℕ) (items : Items) (h : SessionHistory) (log_end : End) (report : Report) : Type 0 where
   pub session : report.session ≡ number
   pub opening : report.opening ≡ map has_of (finite.entries items)
   pub lines : report.clients ≡ map lines_of_acts h.acts
@@ -108,12 +127,13 @@ pub record IsReportOf (of : ScriptSession) (number : ℕ) (items : Items) (h : S
   pub finish : report.finish ≡ map number_of_entry h.finish
   pub commits : report.commits ≡ map number_of_entry (commits_of h.finish)
   pub pending : report.pending ≡ pending_of (desk_run (desk_of h))
-  pub end : report.end ≡ end_of_session of h
+  pub end : report.end ≡ report_end log_end
 
--- the report of the session of this number, from these databases to those, with these commits
-pub record IsLegalReport (session : ScriptSession) (number : ℕ) (opening : Items) (report : Report) (commits : List Commit) (closing : Items) : Type 0 where
+-- the report of the session of this number, from these databases to those
+pub record IsLegalReport (session : ScriptSession) (number : ℕ) (opening : Items) (report : Report) (commits : List Commit) (log_end : End) (closing : Items) : Type 0 where
   pub history : SessionHistory
   pub legal : IsLegal session opening history
-  pub told : IsReportOf session number opening history report
+  pub told : IsReportOf session number opening history log_end report
   pub logged : commits ≡ commits_at history.order (records_logged history.finish)
+  pub ended : EndsSo session.drop_end (commits_at history.order (records_in_doubt history.finish)) log_end
   pub left : closing ≡ items_at_end opening history

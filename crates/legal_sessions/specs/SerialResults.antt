@@ -12,9 +12,9 @@ use Rattle.idb_calls.specs.declared.traces.Outcome.{Outcome}
 use Rattle.idb_desk.specs.declared.steps.DeskStep.{DeskStep}
 use Rattle.idb_desk.specs.declared.steps.DeskStep.TheVariants as step
 use Rattle.item_changes.specs.Items.{Items}
-use Rattle.serial_order.specs.FinishEntries.{FinishEntry}
-use Rattle.serial_order.specs.SerialRuns.{IsSerial}
-use Rattle.serial_order.specs.NumberOrder.{by_number}
+use Rattle.client_machine.specs.FinishEntries.{FinishEntry}
+use Rattle.client_machine.specs.SerialRuns.{IsSerial}
+use Rattle.client_machine.specs.NumberOrder.{by_number}
 use Rattle.script_runs.specs.declared.notes.Note.{Note}
 use Rattle.script_handlers.specs.Handling.{Script, ScriptReacts, ScriptWrites}
 use Rattle.client_machine.specs.Acts.{Act, txs_begun, turns_of}

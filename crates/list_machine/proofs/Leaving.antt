@@ -20,9 +20,9 @@ use Rattle.index_tables.specs.Rows.{RowTree}
 use Rattle.idb_calls.specs.declared.calls.Call.{Call}
 use Rattle.idb_calls.specs.declared.calls.Call.TheVariants.{Add, Put as PutCall, Get, GetKey, Count, GetAll, GetAllKeys, Delete, Clear, OpenCursor, OpenKeyCursor, Continue, ContinuePrimaryKey, Advance, Update, DeleteHere}
 use Rattle.idb_calls.specs.Deltas.{Put, Current}
-use Rattle.object_stores.specs.Store.{Store}
-use Rattle.object_stores.specs.Storing.{Entry, CanStore, noted, with_key, is_refused, with_entry}
-use Rattle.object_stores.specs.Changed.{with_current, store_with_record}
+use Rattle.store_requests.specs.Store.{Store}
+use Rattle.store_requests.specs.Storing.{Entry, CanStore, noted, with_key, is_refused, with_entry}
+use Rattle.store_requests.specs.Changed.{with_current, store_with_record}
 use Rattle.item_changes.specs.Items.{Name, is_same_name, Database, stood_at}
 use Rattle.item_changes.specs.Effects.{OnStore, is_store_with, has_generator, if_there, finds, made, made_all, finds_all}
 use Rattle.item_changes.proofs.Laws.{names_total, one_name, same_name, changed_here, changed_twice}

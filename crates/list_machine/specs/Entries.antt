@@ -18,7 +18,7 @@ use Rattle.idb_schema.specs.Schemas.{store_of}
 use Rattle.version_upgrade.specs.Upgrades.{schema_after}
 use Rattle.index_tables.specs.Unique.{broken_key}
 use Rattle.idb_cursors.specs.Cursors.{CursorData}
-use Rattle.object_stores.specs.Showing.{shown_in}
+use Rattle.store_requests.specs.Showing.{shown_in}
 use Rattle.idb_calls.specs.declared.calls.Call.{Call}
 use Rattle.idb_calls.specs.declared.calls.Call.TheVariants.{Add, Put, Update}
 use Rattle.idb_calls.specs.declared.traces.TheConstants.{GREATEST_DELTA_COUNT}

@@ -12,7 +12,7 @@ use Rattle.idb_calls.specs.declared.calls.Call.{Call}
 use Rattle.idb_calls.specs.declared.calls.Call.TheVariants.{Add, Put}
 use Rattle.item_changes.specs.Items.{Database}
 use Rattle.item_changes.specs.Effects.{is_raised_by, made_all, finds_all}
-use Rattle.object_stores.specs.Storing.{CanStore}
+use Rattle.store_requests.specs.Storing.{CanStore}
 use Rattle.request_lists.specs.declared.entries.ListEntry.{ListEntry}
 use Rattle.request_lists.specs.declared.entries.ListEntry.TheVariants.{Request, Turn, Change}
 use Rattle.list_machine.specs.States.{State}

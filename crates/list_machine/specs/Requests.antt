@@ -21,9 +21,9 @@ use Rattle.idb_cursors.specs.Cursors.{CursorData, TurnData, turn_of, iterated}
 use Rattle.idb_calls.specs.declared.calls.Call.{Call}
 use Rattle.idb_calls.specs.declared.calls.Call.TheVariants.{Add, Put, Get, GetKey, Count, GetAll, GetAllKeys, Delete, Clear, OpenCursor, OpenKeyCursor, Continue, ContinuePrimaryKey, Advance, Update, DeleteHere}
 use Rattle.idb_calls.specs.declared.calls.Target.{Target}
-use Rattle.object_stores.specs.Store.{Store}
-use Rattle.object_stores.specs.Showing.{shown_in}
-use Rattle.store_cursors.specs.Members.{member_taken}
+use Rattle.store_requests.specs.Store.{Store}
+use Rattle.store_requests.specs.Showing.{shown_in}
+use Rattle.store_requests.specs.Members.{member_taken}
 use Rattle.item_changes.specs.Items.{Name, Database}
 use Rattle.store_requests.specs.Answers.{value_answer, key_answer, values_answer, keys_answer, count_answer, cursor_answer}
 use Rattle.store_requests.specs.declared.changes.StoreNames.{StoreNames}

@@ -1,5 +1,6 @@
 // What is done on one store.
 ghost use Rattle.std.specs.Prelude.{◌≡◌, ◌<◌, List, Some, None, length, IfOk, IfSome, IsErrOf, OnErr};
+ghost use Rattle.clone_values.specs.Tree.{undefined};
 ghost use Rattle.clone_values.specs.View.{tree_of};
 ghost use Rattle.idb_schema.specs.Definitions.{index_named};
 ghost use Rattle.idb_calls.specs.Deltas.{DeltaTree};
@@ -266,12 +267,23 @@ fn run_held<T: Tables>(
 {
     match make_own(held) {
         Ok(()) => {}
-        Err(NoMemory) => return Err(StoreError::NoMemory),
+        Err(NoMemory) => {
+            drop(change);
+            return Err(StoreError::NoMemory);
+        }
     }
     match held {
         Held::Own(store) => return run(alloc, store, names, change, changes),
         Held::Shared(_) => unreachable!(),
     }
+}
+
+/// What is done where no store stands: nothing.
+fn on_no_store(_change: StoreChange) -> Result<Value, StoreError>
+    ensures value { IfOk result (λ v. tree_of v ≡ undefined) }
+    ensures done { OnErr result ⊥ }
+{
+    Ok(Value::Undefined)
 }
 
 /// Does it on the store that stands here, if one does.
@@ -294,10 +306,10 @@ pub(crate) fn run_here<T: Tables>(
     ensures named { (name : Name) → IsNamedIf name (slot_now slot.old) → IsNamedIf name (slot_now slot.new) }
 {
     match slot {
-        Slot::Vacant => return Ok(Value::Undefined),
+        Slot::Vacant => return on_no_store(change),
         Slot::Stood(held) => return run_held(alloc, held, names, change, changes),
         Slot::Made(held) => return run_held(alloc, held, names, change, changes),
-        Slot::Gone(_) => return Ok(Value::Undefined),
+        Slot::Gone(_) => return on_no_store(change),
         Slot::Replaced { gone: _, made } => return run_held(alloc, made, names, change, changes),
     }
 }

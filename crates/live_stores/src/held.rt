@@ -5,6 +5,7 @@ ghost use Rattle.live_stores.specs.Holding.{held_store, held_before, IsOwn, IsCo
 use idb_base::NoMemory;
 use index_tables::Tables;
 use object_stores::StoreVersion;
+use std::mem::replace;
 use std::sync::Arc;
 
 /// A store that a transaction holds.
@@ -35,7 +36,7 @@ pub(crate) fn make_own<T: Tables>(held: &mut Held<T>) -> Result<(), NoMemory>
     ensures before { held_before held.new ≡ held_before held.old }
 {
     match copy_shared(held)? {
-        Some(copy) => *held = Held::Own(copy),
+        Some(copy) => drop(replace(held, Held::Own(copy))),
         None => {}
     }
     Ok(())

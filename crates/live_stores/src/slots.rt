@@ -48,12 +48,18 @@ fn with_made<T: Tables>(slot: Slot<T>, store: Held<T>) -> Slot<T>
             gone: held,
             made: store,
         },
-        Slot::Made(_) => Slot::Made(store),
+        Slot::Made(made) => {
+            drop(made);
+            Slot::Made(store)
+        }
         Slot::Gone(held) => Slot::Replaced {
             gone: held,
             made: store,
         },
-        Slot::Replaced { gone, made: _ } => Slot::Replaced { gone, made: store },
+        Slot::Replaced { gone, made } => {
+            drop(made);
+            Slot::Replaced { gone, made: store }
+        }
     }
 }
 
@@ -65,9 +71,15 @@ fn without_now<T: Tables>(slot: Slot<T>) -> Slot<T>
     match slot {
         Slot::Vacant => Slot::Vacant,
         Slot::Stood(held) => Slot::Gone(held),
-        Slot::Made(_) => Slot::Vacant,
+        Slot::Made(made) => {
+            drop(made);
+            Slot::Vacant
+        }
         Slot::Gone(held) => Slot::Gone(held),
-        Slot::Replaced { gone, made: _ } => Slot::Gone(gone),
+        Slot::Replaced { gone, made } => {
+            drop(made);
+            Slot::Gone(gone)
+        }
     }
 }
 
@@ -79,7 +91,10 @@ fn restored<T: Tables>(slot: Slot<T>) -> Slot<T>
     match slot {
         Slot::Vacant => Slot::Vacant,
         Slot::Stood(held) => stood(held),
-        Slot::Made(_) => Slot::Vacant,
+        Slot::Made(made) => {
+            drop(made);
+            Slot::Vacant
+        }
         Slot::Gone(held) => stood(held),
         Slot::Replaced { gone, made: _ } => stood(gone),
     }
@@ -117,13 +132,20 @@ fn settled_here<T: Tables>(held: Held<T>) -> Slot<T>
     Slot::Stood(held)
 }
 
+/// This stands here from now on.
+fn put_slot<T: Tables>(slot: &mut Slot<T>, new: Slot<T>)
+    ensures { slot.new ≡ new }
+{
+    drop(mem::replace(slot, new));
+}
+
 /// A store is made here.
 pub(crate) fn make_here<T: Tables>(slot: &mut Slot<T>, store: Held<T>)
     ensures here { slot_now slot.new ≡ Some (held_store store) }
     ensures before { slot_before slot.new ≡ slot_before slot.old }
 {
     let old = mem::replace(slot, Slot::Vacant);
-    *slot = with_made(old, store);
+    put_slot(slot, with_made(old, store));
 }
 
 /// The store that stands here goes. It takes no memory.
@@ -132,7 +154,7 @@ pub(crate) fn drop_here<T: Tables>(slot: &mut Slot<T>)
     ensures before { slot_before slot.new ≡ slot_before slot.old }
 {
     let old = mem::replace(slot, Slot::Vacant);
-    *slot = without_now(old);
+    put_slot(slot, without_now(old));
 }
 
 /// What stood here before stands here as it was then. It takes no memory.
@@ -141,7 +163,7 @@ pub(crate) fn restore_here<T: Tables>(slot: &mut Slot<T>)
     ensures before { slot_before slot.new ≡ slot_before slot.old }
 {
     let old = mem::replace(slot, Slot::Vacant);
-    *slot = restored(old);
+    put_slot(slot, restored(old));
 }
 
 /// What stands here is what a later transaction finds. It takes no memory.
@@ -150,7 +172,7 @@ pub(crate) fn settle_here<T: Tables>(slot: &mut Slot<T>)
     ensures plain { IsPlain slot.new }
 {
     let old = mem::replace(slot, Slot::Vacant);
-    *slot = settled(old);
+    put_slot(slot, settled(old));
 }
 
 /// Whether no store stands here, and none stood before.
@@ -170,7 +192,7 @@ pub(crate) fn is_vacant<T: Tables>(slot: &Slot<T>) -> bool
 pub(crate) fn put_here<T: Tables>(slot: &mut Slot<T>, held: Held<T>)
     ensures { slot.new ≡ Stood held }
 {
-    *slot = Slot::Stood(held);
+    put_slot(slot, Slot::Stood(held));
 }
 
 /// The store that stands here and stood here before; `None` where it is otherwise.
@@ -180,10 +202,20 @@ pub(crate) fn held_given<T: Tables>(slot: Slot<T>) -> Option<Held<T>>
     match slot {
         Slot::Vacant => None,
         Slot::Stood(held) => Some(held),
-        Slot::Made(_) => None,
-        Slot::Gone(_) => None,
-        Slot::Replaced { gone: _, made: _ } => None,
+        Slot::Made(held) => none_of(held),
+        Slot::Gone(held) => none_of(held),
+        Slot::Replaced { gone, made } => {
+            let _ = none_of(gone);
+            none_of(made)
+        }
     }
+}
+
+/// Nothing of a store that goes.
+fn none_of<T: Tables>(_held: Held<T>) -> Option<Held<T>>
+    ensures { result ≡ None }
+{
+    None
 }
 
 /// The same of a place that is lent.

@@ -67,7 +67,10 @@ pub(crate) fn change_in<T: Tables>(
             let slot = &mut items[place].1;
             return run_here(alloc, slot, names, change, changes);
         }
-        Err(_) => return Ok(Value::Undefined),
+        Err(_) => {
+            drop(change);
+            return Ok(Value::Undefined);
+        }
     }
 }
 
@@ -175,7 +178,7 @@ fn remove_at<T: Tables>(items: &mut Vec<(Text, Slot<T>)>, place: usize)
     requires { place < length items.old.items }
     ensures { items.new.items ≡ remove items.old.items place }
 {
-    let _ = items.remove(place);
+    drop(items.remove(place));
 }
 
 /// Puts each store back that stood before, as it was then. It takes no memory.

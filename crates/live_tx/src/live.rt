@@ -5,7 +5,7 @@ ghost use Rattle.idb_databases.specs.Stores.{AreStores};
 ghost use Rattle.list_machine.specs.declared.steps.Step.TheVariants as steps;
 ghost use Rattle.list_machine.specs.Machine.{Turn};
 ghost use Rattle.list_machine.specs.Seeing.{state_map, pulled_reacts, pulled_writes};
-ghost use Rattle.tx_courses.specs.Courses.{state_with};
+ghost use Rattle.tx_courses.specs.Courses.{state_with, course_in, live_in};
 ghost use Rattle.handler_calls.specs.Cancelling.{cancel_error};
 ghost use Rattle.live_tx.specs.declared.standing.Standing.TheVariants as stands;
 ghost use Rattle.live_tx.specs.Telling.{TurnsInto, AbortsInto};
@@ -284,7 +284,7 @@ impl<T: Tables, H: Handler> LiveTx<T, H> {
         ensures mode { result.mode ≡ self.state.front.mode }
         ensures durability { result.durability ≡ self.durability }
         ensures schema { result.schema ≡ self.state.schema }
-        ensures stores { result.stores ≡ stores_in self.state.database }
+        ensures stores { result.stores ≡ live_in (course_in self.state) }
         ensures deltas { result.deltas ≡ self.state.changes }
         ensures told { result.told ≡ self.told }
         ensures standing { result.standing ≡ self.standing }

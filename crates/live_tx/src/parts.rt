@@ -4,7 +4,7 @@ use idb_calls::{Deltas, Events};
 use idb_keys::{Durability, Mode};
 use idb_schema::Schema;
 use index_tables::Tables;
-use live_stores::Stores;
+use live_stores::LiveStores;
 
 /// What is left of a live transaction, and what its trace says.
 #[derive(Drop)]
@@ -14,7 +14,8 @@ pub struct LiveParts<T: Tables> {
     pub durability: Durability,
     /// The schema as the entries that have run left it.
     pub schema: Schema,
-    pub stores: Stores<T>,
+    /// The stores, by which it can still be undone.
+    pub stores: LiveStores<T>,
     /// Its changes, in the order in which they took effect.
     pub deltas: Deltas,
     /// What its requests were told, in order.

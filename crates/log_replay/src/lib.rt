@@ -10,6 +10,3 @@ mod records;
 
 pub use batches::replay;
 pub use error::ReplayError;
-
-#[cfg(test)]
-mod tests;

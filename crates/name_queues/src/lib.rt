@@ -25,6 +25,3 @@ pub use ids::ConnId;
 pub use names::{GREATEST_NAME_COUNT, Named, begin_tx, blank_name, close, end_tx, mark, push};
 pub use traffic::Traffic;
 pub use turns::{Turn, turn_name};
-
-#[cfg(test)]
-mod tests;

@@ -9,7 +9,7 @@ use Rattle.clone_values.specs.Tree.{Tree}
 use Rattle.clone_values.specs.KeyTree.{KeyTree}
 use Rattle.idb_schema.specs.declared.definitions.StoreInfo.{StoreInfo}
 use Rattle.index_tables.specs.Rows.{RowTree}
-use Rattle.indexed_records.specs.Contents.{rows_in_indexes}
+use Rattle.range_reads.specs.Contents.{rows_in_indexes}
 use Rattle.object_stores.specs.Store.{Content}
 use Rattle.object_stores.proofs.Logged.{out_again, in_again, over_back, gone, there}
 

@@ -10,7 +10,7 @@ use Rattle.idb_schema.specs.declared.definitions.IndexInfo.{IndexInfo}
 use Rattle.idb_schema.specs.declared.definitions.StoreInfo.{StoreInfo}
 use Rattle.index_tables.specs.RecordRows.{Records}
 use Rattle.index_tables.specs.Unique.{broken_key, is_broken}
-use Rattle.indexed_records.specs.Contents.{info_with_index, info_without_last, info_without_index, info_with_index_at}
+use Rattle.range_reads.specs.Contents.{info_with_index, info_without_last, info_without_index, info_with_index_at}
 use Rattle.object_stores.proofs.Off.{same_some as some_same}
 
 -- the last index is taken away again

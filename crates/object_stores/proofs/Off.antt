@@ -9,7 +9,7 @@ use Rattle.std.proofs.lemmas.Bool.{true≢false}
 use Rattle.index_tables.specs.RecordRows.{Records}
 use Rattle.idb_schema.specs.declared.definitions.IndexInfo.{IndexInfo}
 use Rattle.index_tables.specs.Rows.{RowTree}
-use Rattle.indexed_records.specs.Contents.{rows_in_indexes}
+use Rattle.range_reads.specs.Contents.{rows_in_indexes}
 use Rattle.object_stores.specs.Store.{Content}
 use Rattle.object_stores.specs.Undo.{undone, past_of, CanUndo, needed_records, needed_rows, HasSpare, AreRoomy}
 use Rattle.object_stores.specs.Parts.{content_in, log_in, past_in, IsSound, IsOff}

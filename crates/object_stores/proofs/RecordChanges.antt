@@ -18,7 +18,7 @@ use Rattle.idb_keys.specs.KeyRange.{Range, includes}
 use Rattle.idb_keys.specs.declared.names.Over.TheVariants.{Store as itself}
 use Rattle.index_tables.specs.Rows.{RowTree}
 use Rattle.index_tables.specs.RecordRows.{Records}
-use Rattle.indexed_records.specs.Reading.{selected, primary_keys}
+use Rattle.range_reads.specs.Reading.{selected, primary_keys}
 use Rattle.object_stores.specs.Store.{Store}
 use Rattle.object_stores.specs.Changed.{store_with_record, store_without_record, without_records, without_range, outside_range, cleared, with_current}
 use Rattle.object_stores.specs.Showing.{shown_in}

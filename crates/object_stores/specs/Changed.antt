@@ -12,7 +12,7 @@ use Rattle.clone_values.specs.KeyTree.{KeyTree}
 use Rattle.idb_keys.specs.KeyRange.{Range, includes}
 use Rattle.idb_schema.specs.declared.definitions.IndexInfo.{IndexInfo}
 use Rattle.index_tables.specs.RecordRows.{Records}
-use Rattle.indexed_records.specs.Contents.{info_with_index, info_without_index}
+use Rattle.range_reads.specs.Contents.{info_with_index, info_without_index}
 use Rattle.object_stores.specs.Store.{Store}
 
 abbrev pub store_with_record : Store → KeyTree → Tree → Store

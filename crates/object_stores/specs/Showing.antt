@@ -6,7 +6,7 @@ use Rattle.std.specs.Prelude.{List, Option}
 use Rattle.idb_keys.specs.KeyRange.{Range}
 use Rattle.idb_keys.specs.declared.names.Over.{Over}
 use Rattle.index_tables.specs.Rows.{RowTree}
-use Rattle.indexed_records.specs.Reading.{members_in, selected, asked}
+use Rattle.range_reads.specs.Reading.{members_in, selected, asked}
 use Rattle.object_stores.specs.Store.{Store}
 
 abbrev pub shown_in : Store → Over → List RowTree

@@ -1,7 +1,7 @@
 // What was changed since the last mark was forgotten, and what undoes it.
 use clone_values::{Key, Value};
 use index_tables::Tables;
-use indexed_records::{Dropped, Emptied, IndexedRecords, RowLists};
+use range_reads::{Dropped, Emptied, IndexedRecords, RowLists};
 
 /// A change that can be undone.
 #[derive(Drop)]

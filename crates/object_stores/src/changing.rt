@@ -6,7 +6,7 @@ ghost use Rattle.clone_values.specs.KeyTree.{KeyTree};
 ghost use Rattle.clone_values.specs.Tree.{Tree};
 ghost use Rattle.clone_values.specs.View.{key_tree_of, tree_of};
 ghost use Rattle.index_tables.specs.Unique.{is_broken};
-ghost use Rattle.indexed_records.specs.Contents.{rows_in_indexes, rows_among, IsRecordAt, IsGapOf};
+ghost use Rattle.range_reads.specs.Contents.{rows_in_indexes, rows_among, IsRecordAt, IsGapOf};
 ghost use Rattle.object_stores.specs.IsStore.{IsStored};
 ghost use Rattle.object_stores.specs.Parts.{content_in, past_in, IsSound, IsReady};
 ghost use Rattle.object_stores.specs.declared.changes.Change.TheVariants as change;
@@ -15,7 +15,7 @@ use crate::changes::{Change, Parts};
 use clone_values::{Key, Value};
 use idb_base::NoMemory;
 use index_tables::{Tables, unique_laws};
-use indexed_records::{Emptied, RowLists, plus};
+use range_reads::{Emptied, RowLists, plus};
 use std::mem;
 
 /// Takes the memory for changes, and for records and rows that come or can come back.

@@ -1,8 +1,8 @@
 // Indexes that come and go.
 ghost use Rattle.std.specs.Prelude.{◌≡◌, ◌<◌, None, length, IfErr, OnOk, OnErr};
 ghost use Rattle.idb_schema.specs.Definitions.{IsIndexInfo, index_named};
-ghost use Rattle.indexed_records.specs.Causes.{IsCause};
-ghost use Rattle.indexed_records.specs.Contents.{info_with_index, info_without_index};
+ghost use Rattle.range_reads.specs.Causes.{IsCause};
+ghost use Rattle.range_reads.specs.Contents.{info_with_index, info_without_index};
 ghost use Rattle.index_tables.specs.Unique.{broken_key};
 ghost use Rattle.object_stores.specs.Store.{KeepsPlaces};
 ghost use Rattle.object_stores.specs.Parts.{content_in, past_in, IsSound, IsReady};
@@ -12,7 +12,7 @@ use crate::changing::{note, ready};
 use idb_base::NoMemory;
 use idb_schema::IndexInfo;
 use index_tables::Tables;
-use indexed_records::IndexError;
+use range_reads::IndexError;
 
 /// Makes an index, the last one, with the rows of all records.
 pub(crate) fn add<T: Tables>(parts: &mut Parts<T>, info: IndexInfo) -> Result<(), IndexError>

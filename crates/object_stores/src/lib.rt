@@ -17,9 +17,6 @@ mod undoing;
 mod whole;
 
 pub use error::StoreError;
-pub use indexed_records::IndexError;
 pub use meanings::{mark_laws, store_laws};
+pub use range_reads::IndexError;
 pub use store::{Mark, StoreVersion};
-
-#[cfg(test)]
-mod tests;

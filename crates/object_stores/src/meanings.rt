@@ -5,7 +5,7 @@ ghost use Rattle.clone_values.specs.Tree.{Tree};
 ghost use Rattle.clone_values.specs.KeyTree.{KeyTree};
 ghost use Rattle.idb_keys.specs.KeyRange.{Range};
 ghost use Rattle.idb_keys.specs.declared.names.Over.TheVariants as over;
-ghost use Rattle.indexed_records.specs.Reading.{selected, primary_keys};
+ghost use Rattle.range_reads.specs.Reading.{selected, primary_keys};
 ghost use Rattle.object_stores.specs.Changed.{store_with_record, with_current, without_records, without_range, cleared};
 ghost use Rattle.object_stores.specs.Showing.{shown_in};
 ghost use Rattle.object_stores.specs.Store.{Store, Kept, at_mark, KeepsPast};

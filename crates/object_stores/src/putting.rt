@@ -1,22 +1,22 @@
 // Putting a record under its key.
-ghost use Rattle.std.specs.Prelude.{◌≡◌, ◌<◌, not, if◌then◌else◌, Some, slice_get, is_some, IfOk, IfSome, OnErr};
+ghost use Rattle.std.specs.Prelude.{◌≡◌, ◌+◌, ◌<◌, not, false, if◌then◌else◌, Some, slice_get, is_some, IfOk, IfSome, OnErr};
 ghost use Rattle.std.specs.FinMap as finite;
 ghost use Rattle.clone_values.specs.View.{key_tree_of, tree_of};
 ghost use Rattle.clone_values.specs.KeyTree.{KeyTree};
 ghost use Rattle.clone_values.specs.Tree.{Tree};
 ghost use Rattle.index_tables.specs.Unique.{is_broken};
-ghost use Rattle.indexed_records.specs.Contents.{rows_in_indexes, IsRecordAt, IsGapOf};
+ghost use Rattle.range_reads.specs.Contents.{rows_in_indexes, rows_among, IsRecordAt, IsGapOf};
 ghost use Rattle.object_stores.specs.IsStore.{IsStored};
 ghost use Rattle.object_stores.specs.Store.{KeepsPlaces};
 ghost use Rattle.object_stores.specs.Storing.{content_with, is_refused};
-ghost use Rattle.object_stores.specs.Parts.{content_in, past_in, IsSound};
+ghost use Rattle.object_stores.specs.Parts.{content_in, past_in, IsSound, IsReady};
 
 use crate::changes::Parts;
 use crate::changing::{add, ready, replace};
 use clone_values::{Key, Value};
 use idb_base::NoMemory;
 use index_tables::Tables;
-use indexed_records::{RowLists, plus};
+use range_reads::{RowLists, plus};
 use std::alloc::Global;
 
 /// Puts a record in, in place of one that has its key unless that is to be kept. Without a key in the answer nothing
@@ -43,21 +43,43 @@ pub(crate) fn put<T: Tables>(
         (past_in parts.new) (content_in parts.new) }
 {
     let answer = key.copy(alloc)?;
+    if put_record(alloc, parts, key, value, keep)? {
+        return Ok(Some(answer));
+    }
+    drop(answer);
+    Ok(None)
+}
+
+/// The same, and whether the record was put in.
+fn put_record<T: Tables>(
+    alloc: Global,
+    parts: &mut Parts<T>,
+    key: Key,
+    value: Value,
+    keep: bool,
+) -> Result<bool, NoMemory>
+    requires sound { IsSound parts.old }
+    requires fits { IsStored (key_tree_of key) (tree_of value) }
+    ensures sound { IsSound parts.new }
+    ensures stored { IfOk result (λ b. b
+        ≡ not (is_refused parts.old.contents.info.indexes parts.old.contents.records keep
+        (key_tree_of key) (tree_of value))) }
+    ensures content { IfOk result (λ b. content_in parts.new
+        ≡ (if b then content_with (content_in parts.old) (key_tree_of key) (tree_of value)
+        else content_in parts.old)) }
+    ensures unchanged { OnErr result (content_in parts.new ≡ content_in parts.old) }
+    ensures past { KeepsPlaces (past_in parts.old) (content_in parts.old)
+        (past_in parts.new) (content_in parts.new) }
+{
     match parts.contents.find(&key) {
-        Err(place) => {
-            if put_new(alloc, parts, place, key, value)? {
-                return Ok(Some(answer));
-            }
-            return Ok(None);
-        }
+        Err(place) => return put_new(alloc, parts, place, key, value),
         Ok(place) => {
             if keep {
-                return Ok(None);
+                drop(value);
+                drop(key);
+                return Ok(false);
             }
-            if put_over(alloc, parts, place, key, value)? {
-                return Ok(Some(answer));
-            }
-            return Ok(None);
+            return put_over(alloc, parts, place, key, value);
         }
     }
 }
@@ -84,12 +106,12 @@ fn put_new<T: Tables>(
         (past_in parts.new) (content_in parts.new) }
 {
     let key_copy = key.copy(alloc)?;
-    let rows = parts.contents.rows_for(&key, &value)?;
-    let rows_copy = rows.copy(alloc)?;
-    ready(parts, 1, 1, rows.count())?;
-    if parts.contents.clashes(&key, &rows) {
+    let Some((rows, rows_copy)) = rows_ready(alloc, parts, &key, &value, 1, 0)? else {
+        drop(key_copy);
+        drop(value);
+        drop(key);
         return Ok(false);
-    }
+    };
     add(parts, place, key, value, rows, key_copy, rows_copy);
     Ok(true)
 }
@@ -115,15 +137,48 @@ fn put_over<T: Tables>(
     ensures past { KeepsPlaces (past_in parts.old) (content_in parts.old)
         (past_in parts.new) (content_in parts.new) }
 {
-    let rows = parts.contents.rows_for(&key, &value)?;
-    let rows_copy = rows.copy(alloc)?;
     let old_rows = rows_at(parts, place)?;
-    ready(parts, 1, 0, plus(old_rows.count(), rows.count())?)?;
-    if parts.contents.clashes(&key, &rows) {
+    let Some((rows, rows_copy)) = rows_ready(alloc, parts, &key, &value, 0, old_rows.count())?
+    else {
+        drop(old_rows);
+        drop(value);
+        drop(key);
         return Ok(false);
-    }
+    };
     replace(parts, place, key, value, old_rows, rows, rows_copy);
     Ok(true)
+}
+
+/// The rows of the record and a copy of them, with the memory for a change and for them beside so many old rows. There are
+/// none where a unique index would have two rows of one key.
+fn rows_ready<T: Tables>(
+    alloc: Global,
+    parts: &mut Parts<T>,
+    key: &Key,
+    value: &Value,
+    records: usize,
+    old: usize,
+) -> Result<Option<(RowLists, RowLists)>, NoMemory>
+    requires sound { IsSound parts.old }
+    ensures sound { IsSound parts.new }
+    ensures content { content_in parts.new ≡ content_in parts.old }
+    ensures log { parts.new.log.items ≡ parts.old.log.items }
+    ensures ready { IfOk result (λ r. IfSome r (λ p. IsReady parts.new 1 records (old + rows_among p.0))) }
+    ensures rows { IfOk result (λ r. IfSome r (λ p. p.0 ≡ rows_in_indexes parts.new.contents.info.indexes
+        (key_tree_of key.now) (tree_of value.now))) }
+    ensures copy { IfOk result (λ r. IfSome r (λ p. p.1 ≡ p.0)) }
+    ensures unique { IfOk result (λ r. IfSome r (λ p. is_broken parts.new.contents.info.indexes
+        (finite.insert parts.new.contents.records (key_tree_of key.now) (tree_of value.now)) ≡ false)) }
+    ensures stored { IfOk result (λ r. is_some r ≡ not (is_broken parts.old.contents.info.indexes
+        (finite.insert parts.old.contents.records (key_tree_of key.now) (tree_of value.now)))) }
+{
+    let rows = parts.contents.rows_for(key, value)?;
+    ready(parts, 1, records, plus(old, rows.count())?)?;
+    if parts.contents.clashes(key, &rows) {
+        return Ok(None);
+    }
+    let copy = rows.copy(alloc)?;
+    Ok(Some((rows, copy)))
 }
 
 /// The rows of the record at this place, index by index.

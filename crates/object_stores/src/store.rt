@@ -6,10 +6,10 @@ ghost use Rattle.idb_keys.specs.declared.names.Over.TheVariants.{Store, Index};
 ghost use Rattle.idb_schema.specs.Definitions.{IsStoreInfo, IsIndexInfo, index_named};
 ghost use Rattle.key_generators.specs.Generators.{IsGenerator};
 ghost use Rattle.index_tables.specs.Unique.{broken_key};
-ghost use Rattle.indexed_records.specs.Causes.{IsCause};
-ghost use Rattle.indexed_records.specs.Reading.{selected, limited, primary_keys, values_in, first_primary, first_value, keys_seen, value_seen};
+ghost use Rattle.range_reads.specs.Causes.{IsCause};
+ghost use Rattle.range_reads.specs.Reading.{selected, limited, primary_keys, values_in, first_primary, first_value, keys_seen, value_seen};
 ghost use Rattle.index_tables.specs.View.{rows_in};
-ghost use Rattle.indexed_records.specs.View.{record_seen, own_rows};
+ghost use Rattle.range_reads.specs.View.{record_seen, own_rows};
 ghost use Rattle.object_stores.specs.Changed.{without_range, cleared, with_current, store_with_index, store_without_index};
 ghost use Rattle.object_stores.specs.IsStore.{IsStore, IsCurrent};
 ghost use Rattle.object_stores.specs.Showing.{shown_in, chosen_in};
@@ -27,9 +27,8 @@ use idb_base::NoMemory;
 use idb_keys::{KeyRange, Over};
 use idb_schema::{IndexInfo, StoreInfo};
 use index_tables::{Tables, unique_laws};
-use indexed_records::{IndexError, IndexedRecords};
 use key_generators::Generator;
-use range_reads::{count, get, get_all, get_all_keys, get_key};
+use range_reads::{IndexError, IndexedRecords, count, get, get_all, get_all_keys, get_key};
 use std::alloc::Global;
 use std::marker::Model;
 
@@ -55,7 +54,7 @@ pub struct StoreVersion<T: Tables> {
 
 impl<T: Tables> Model for StoreVersion<T> {
     ghost use Rattle.std.specs.Coded.{codes};
-    ghost use Rattle.indexed_records.specs.Contents.{records_code};
+    ghost use Rattle.range_reads.specs.Contents.{records_code};
     ghost use Rattle.object_stores.specs.Store.{Kept};
     ghost use Rattle.object_stores.specs.Parts.{kept_in, IsVersion};
 

@@ -2,7 +2,7 @@
 ghost use Rattle.std.specs.Prelude.{◌≡◌, ◌+◌, ◌<◌, ◌≤◌, [], ◌∷◌, ◌++◌, length, take};
 ghost use Rattle.std.specs.FinMap as finite;
 ghost use Rattle.clone_values.specs.View.{key_tree_of, tree_of};
-ghost use Rattle.indexed_records.specs.Contents.{info_without_last, info_with_index_at};
+ghost use Rattle.range_reads.specs.Contents.{info_without_last, info_with_index_at};
 ghost use Rattle.object_stores.specs.Store.{content_at};
 ghost use Rattle.object_stores.specs.Undo.{undone};
 ghost use Rattle.object_stores.specs.Parts.{content_in, past_in, IsSound, IsOff};
@@ -11,7 +11,7 @@ ghost use Rattle.object_stores.specs.declared.changes.Change.TheVariants as chan
 use crate::changes::{Change, Parts};
 use clone_values::{Key, Value};
 use index_tables::Tables;
-use indexed_records::{Dropped, Emptied, RowLists};
+use range_reads::{Dropped, Emptied, RowLists};
 
 /// Undoes the newest change.
 pub(crate) fn undo_one<T: Tables>(parts: &mut Parts<T>)
@@ -62,7 +62,7 @@ fn undo_added<T: Tables>(parts: &mut Parts<T>, key: &Key, rows: &RowLists)
 {
     match parts.contents.find(key) {
         Ok(place) => {
-            let _ = parts.contents.take_out(place, rows);
+            drop(parts.contents.take_out(place, rows));
         }
         Err(_) => unreachable!(),
     }
@@ -101,7 +101,7 @@ fn undo_replaced<T: Tables>(
     parts.rows -= rows.count();
     match parts.contents.find(key) {
         Ok(place) => {
-            let _ = parts.contents.replace_at(place, value, new_rows, rows);
+            drop(parts.contents.replace_at(place, value, new_rows, rows));
         }
         Err(_) => unreachable!(),
     }

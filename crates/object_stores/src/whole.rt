@@ -14,8 +14,8 @@ use crate::putting::put;
 use clone_values::{Key, Value};
 use idb_base::NoMemory;
 use index_tables::{Tables, unique_laws};
-use indexed_records::IndexedRecords;
 use key_generators::Generator;
+use range_reads::IndexedRecords;
 use std::alloc::Global;
 
 /// Parts without a change.

@@ -156,6 +156,3 @@ pub fn path_grammar_laws()
     ensures names { (s : List ℕ) → is_path_string s ≡ true → (length s == 0) ≡ false
         → list_all is_part_name (parts_of s) ≡ true }
 {}
-
-#[cfg(test)]
-mod tests;

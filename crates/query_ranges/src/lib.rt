@@ -6,6 +6,3 @@
 mod queries;
 
 pub use queries::{QueryKeys, is_query_refused, range_of_query, read_query};
-
-#[cfg(test)]
-mod tests;

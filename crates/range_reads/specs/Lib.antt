@@ -1,1 +1,5 @@
 pub mod PastLast
+pub use Rattle.indexed_records.specs.Causes
+pub use Rattle.indexed_records.specs.Contents
+pub use Rattle.indexed_records.specs.Reading
+pub use Rattle.indexed_records.specs.View

@@ -8,9 +8,7 @@ mod meanings;
 mod reads;
 mod spans;
 
+pub use indexed_records::{Dropped, Emptied, IndexError, IndexedRecords, RowLists, plus};
 pub use meanings::reading_laws;
 pub use reads::{get, get_all, get_all_keys, get_key};
 pub use spans::{count, span};
-
-#[cfg(test)]
-mod tests;

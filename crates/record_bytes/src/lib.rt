@@ -18,6 +18,3 @@ pub use reading::read_batch;
 pub use record_laws::{batch_spelling_laws, record_spelling_laws};
 pub use records::{LogRecord, Records};
 pub use writing::write_record;
-
-#[cfg(test)]
-mod tests;

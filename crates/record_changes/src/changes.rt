@@ -204,18 +204,65 @@ fn put_if_unique<T: Tables>(
         (Put db store (key_tree_of key) (tree_of value)) ≡ false }
     ensures blank { OnOk result (HasNoRecords aside.old → HasNoRecords aside.new) }
 {
-    let tried = copied_put(alloc, &db, &store, &key, &value)?;
-    if change_or_loosen(alloc, items, aside, &db, &store, tried)? {
-        return Ok(());
+    match try_put(alloc, items, aside, &db, &store, &key, &value) {
+        Ok(made) => {
+            if made {
+                drop(value);
+                drop(key);
+                drop(store);
+                drop(db);
+                return Ok(());
+            }
+            change_apart(
+                alloc,
+                items,
+                aside,
+                Delta::Put {
+                    db,
+                    store,
+                    key,
+                    value,
+                },
+            )
+        }
+        Err(e) => {
+            drop(value);
+            drop(key);
+            drop(store);
+            drop(db);
+            Err(e)
+        }
     }
-    let change = Delta::Put {
-        db,
-        store,
-        key,
-        value,
-    };
-    change_here(alloc, items, aside, change)?;
-    Ok(())
+}
+
+/// Tries an equal put. Where a unique index stands against it, the store is loosened instead, and the answer is false.
+fn try_put<T: Tables>(
+    alloc: Global,
+    items: &mut Databases<T>,
+    aside: &mut Databases<T>,
+    db: &Text,
+    store: &Text,
+    key: &Key,
+    value: &Value,
+) -> Result<bool, RecordError>
+    requires { CanApply (Put db.now store.now (key_tree_of key.now) (tree_of value.now)) }
+    ensures made { IfOk result (λ made. made ≡ true → meant items.new aside.new
+        ≡ applied (meant items.old aside.old) (Put db.now store.now (key_tree_of key.now) (tree_of value.now))) }
+    ensures found { IfOk result (λ made. made ≡ true → applies (meant items.old aside.old)
+        (Put db.now store.now (key_tree_of key.now) (tree_of value.now)) ≡ true) }
+    ensures damaged { IsErrOf result RecordError.Damaged → applies (meant items.old aside.old)
+        (Put db.now store.now (key_tree_of key.now) (tree_of value.now)) ≡ false }
+
+    // Where it is loosened.
+    ensures unmade { IfOk result (λ made. made ≡ false
+        → meant items.new aside.new ≡ meant items.old aside.old) }
+    ensures none { IfOk result (λ made. made ≡ false
+        → has_unique (store_at items.new db.now store.now) ≡ false) }
+
+    ensures blank { OnOk result (HasNoRecords aside.old → HasNoRecords aside.new) }
+{
+    let tried = copied_put(alloc, db, store, key, value)?;
+    change_or_loosen(alloc, items, aside, db, store, tried)
 }
 
 /// Makes a put.
@@ -240,14 +287,17 @@ pub(crate) fn put_record<T: Tables>(
     if has_unique(items, &db, &store) {
         return put_if_unique(alloc, items, aside, db, store, key, value);
     }
-    let change = Delta::Put {
-        db,
-        store,
-        key,
-        value,
-    };
-    change_here(alloc, items, aside, change)?;
-    Ok(())
+    change_apart(
+        alloc,
+        items,
+        aside,
+        Delta::Put {
+            db,
+            store,
+            key,
+            value,
+        },
+    )
 }
 
 /// Makes a change that has nothing to do with indexes, and leaves unique ones unbroken.

@@ -72,13 +72,71 @@ fn make_alone<T: Tables>(
         (CreateIndex db.now store.now index.name index.path index.unique index.multi) ≡ false }
     ensures blank { OnOk result (HasNoRecords aside.new) }
 {
-    let tried = copied_creation(alloc, db, store, &index)?;
-    if change_or_loosen(alloc, items, aside, db, store, tried)? {
-        return Ok(());
+    match try_index(alloc, items, aside, db, store, &index) {
+        Ok(made) => {
+            if made {
+                return Ok(());
+            }
+            make_kept(alloc, items, aside, db, store, index)
+        }
+        Err(e) => Err(e),
     }
+}
+
+/// Tries an equal index. Where it would have two rows of one key, the store is loosened instead, and the answer is false.
+fn try_index<T: Tables>(
+    alloc: Global,
+    items: &mut Databases<T>,
+    aside: &mut Databases<T>,
+    db: &Text,
+    store: &Text,
+    index: &IndexInfo,
+) -> Result<bool, RecordError>
+    requires sound { IsIndexInfo index.now }
+    requires alone { is_some (store_at aside.old db.now store.now) ≡ false }
+    ensures made { IfOk result (λ made. made ≡ true
+        → meant items.new aside.new ≡ applied (meant items.old aside.old)
+        (CreateIndex db.now store.now index.now.name index.now.path index.now.unique index.now.multi)) }
+    ensures found { IfOk result (λ made. made ≡ true → applies (meant items.old aside.old)
+        (CreateIndex db.now store.now index.now.name index.now.path index.now.unique index.now.multi) ≡ true) }
+    ensures damaged { IsErrOf result RecordError.Damaged → applies (meant items.old aside.old)
+        (CreateIndex db.now store.now index.now.name index.now.path index.now.unique index.now.multi) ≡ false }
+
+    // Where it is loosened.
+    ensures unmade { IfOk result (λ made. made ≡ false
+        → meant items.new aside.new ≡ meant items.old aside.old) }
+    ensures kept { IfOk result (λ made. made ≡ false → is_some (store_at items.new db.now store.now) ≡ true
+        → is_some (store_at aside.new db.now store.now) ≡ true) }
+
+    ensures blank { OnOk result (HasNoRecords aside.old → HasNoRecords aside.new) }
+{
+    let tried = copied_creation(alloc, db, store, index)?;
+    change_or_loosen(alloc, items, aside, db, store, tried)
+}
+
+/// Makes an index of a store that is loosened, if it is there: it is the last of those that are kept.
+fn make_kept<T: Tables>(
+    alloc: Global,
+    items: &Databases<T>,
+    aside: &mut Databases<T>,
+    db: &Text,
+    store: &Text,
+    index: IndexInfo,
+) -> Result<(), RecordError>
+    requires sound { IsIndexInfo index }
+    requires kept { is_some (store_at items.now db.now store.now) ≡ true
+        → is_some (store_at aside.old db.now store.now) ≡ true }
+    requires blank { HasNoRecords aside.old }
+    ensures made { OnOk result (meant items.now aside.new ≡ applied (meant items.now aside.old)
+        (CreateIndex db.now store.now index.name index.path index.unique index.multi)) }
+    ensures found { OnOk result (applies (meant items.now aside.old)
+        (CreateIndex db.now store.now index.name index.path index.unique index.multi) ≡ true) }
+    ensures damaged { IsErrOf result RecordError.Damaged → applies (meant items.now aside.old)
+        (CreateIndex db.now store.now index.name index.path index.unique index.multi) ≡ false }
+    ensures blank { OnOk result (HasNoRecords aside.new) }
+{
     let change = creation(alloc, db, store, index)?;
-    change_kept(alloc, items, aside, db, store, change)?;
-    Ok(())
+    change_kept(alloc, items, aside, db, store, change)
 }
 
 /// Makes an index.
@@ -103,9 +161,7 @@ pub(crate) fn make_index<T: Tables>(
     if !has_store(aside, db, store) {
         return make_alone(alloc, items, aside, db, store, index);
     }
-    let change = creation(alloc, db, store, index)?;
-    change_kept(alloc, items, aside, db, store, change)?;
-    Ok(())
+    make_kept(alloc, items, aside, db, store, index)
 }
 
 /// Drops an index.
@@ -127,16 +183,21 @@ pub(crate) fn drop_index<T: Tables>(
     ensures blank { OnOk result (HasNoRecords aside.new) }
 {
     let kept = has_store(aside, db, store);
-    let change = Delta::DropIndex {
+    let change = dropping(alloc, db, store, index)?;
+    if kept {
+        change_kept(alloc, items, aside, db, store, change)
+    } else {
+        change_here(alloc, items, aside, change)
+    }
+}
+
+/// The change that drops the index of this name of the store of this name.
+fn dropping(alloc: Global, db: &Text, store: &Text, index: Text) -> Result<Delta, NoMemory>
+    ensures { IfOk result (λ change. delta_of change ≡ DropIndex db.now store.now index) }
+{
+    Ok(Delta::DropIndex {
         db: db.copy(alloc)?,
         store: store.copy(alloc)?,
         index,
-    };
-    if kept {
-        change_kept(alloc, items, aside, db, store, change)?;
-        Ok(())
-    } else {
-        change_here(alloc, items, aside, change)?;
-        Ok(())
-    }
+    })
 }

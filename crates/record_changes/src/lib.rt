@@ -18,6 +18,3 @@ mod safe;
 
 pub use error::RecordError;
 pub use record::change_by_record;
-
-#[cfg(test)]
-mod tests;

@@ -8,8 +8,6 @@ mod bytes;
 mod line_text;
 mod lines;
 mod reports;
-#[cfg(test)]
-mod tests;
 mod writing;
 
 pub use lines::{ClientLines, Line, Lines};

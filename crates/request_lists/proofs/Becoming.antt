@@ -27,3 +27,7 @@ module _ {D : Type 0} where
   pub becomes_accepted : (before after : Front D) (call : Call) (handler : D) (result : Result ℕ (Refused D)) → IsCall call → refusal_of call before ≡ None → OnOk result (after ≡ after_call call handler before) → OnErr result (after ≡ before) → Becomes before after
   becomes_accepted before after call handler (Ok n) c t e u = becomes_placed before after call handler c t e
   becomes_accepted before after call handler (Err r) c t e u = becomes_same before after u
+
+  pub becomes_tried : {X E : Type 0} (before after : Front D) (call : SchemaCall) (result : Result X E) → refusal_of_change call before ≡ None → OnOk result (after ≡ after_schema_call call before) → OnErr result (after ≡ before) → Becomes before after
+  becomes_tried before after call (Ok x) t e u = becomes_changed before after call t e
+  becomes_tried before after call (Err r) t e u = becomes_same before after u

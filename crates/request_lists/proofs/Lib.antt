@@ -1,3 +1,4 @@
+mod Accepted
 mod Becoming
 mod Clones
 pub mod Laws

@@ -13,7 +13,7 @@ use Rattle.std.proofs.lemmas.List.Folds.{find_at}
 use Rattle.std.proofs.Math.Seq.{get_or-append_seam}
 use Rattle.std.proofs.Math.ListN.{get_or-append}
 use Rattle.std.proofs.Common.{length-append}
-use Rattle.std.proofs.lemmas.List.{get_or-map}
+use Rattle.std.proofs.lemmas.List.{get_or-map, set-get_or}
 use Rattle.request_lists.specs.declared.entries.FrontCursor.{FrontCursor}
 use Rattle.request_lists.specs.Fronts.{is_cursor, requests_of, AreNumbered, cursor_changed, handler_of}
 
@@ -157,7 +157,14 @@ module _ {D : Type 0} where
       let p = place_some n cs i (sym s) in
       subst (λ ns. AreNumbered ns next) (sym (requests_set cs i c d (omega (arith, p.0, p.1)) e (keeps_request result change same c d h k))) r
 
+  pub same_by : {X E : Type 0} (result : Result X E) (cs : List (FrontCursor D)) (i : ℕ) (c d : FrontCursor D) → c ≡ get_or cs i c → OnErr result (d ≡ c) → OnErr result (set cs i d ≡ cs)
+  same_by (Ok x) cs i c d e k = tt
+  same_by (Err f) cs i c d e k = ap (λ y. set cs i y) (k ∙ e) ∙ set-get_or cs i c
+
 -- ---- one more
+pub numbered_next : (ns : List ℕ) (n : ℕ) → AreNumbered ns n → AreNumbered ns (n + 1)
+numbered_next ns n r = record { rising = r.rising; below = λ i l. omega (arith, r.below i l) }
+
 pub numbered_more : (ns : List ℕ) (n : ℕ) → AreNumbered ns n → AreNumbered (ns ++ n ∷ []) (n + 1)
 numbered_more ns n r = record {
   rising = λ i j l m. rising_more ns n r i j l (omega (arith, length-append ns (n ∷ []), m));

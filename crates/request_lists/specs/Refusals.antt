@@ -25,7 +25,7 @@ use Rattle.idb_schema.specs.declared.calls.SchemaCall.TheVariants as change
 use Rattle.idb_schema.specs.declared.definitions.StoreInfo.{StoreInfo}
 use Rattle.idb_schema.specs.declared.identities.StoreId.{StoreId}
 use Rattle.idb_schema.specs.Schemas.{SchemaData, store_of}
-use Rattle.index_tables.specs.Rows.{RowTree}
+use Rattle.idb_cursors.specs.Rows.{RowTree}
 use Rattle.version_upgrade.specs.Upgrades.{first_of, has_index, refusal_of_schema}
 use Rattle.idb_cursors.specs.Cursors.{is_unique, key_beyond_place, pair_beyond_place}
 use Rattle.idb_calls.specs.declared.calls.Call.{Call}

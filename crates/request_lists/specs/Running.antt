@@ -6,7 +6,7 @@
 --     cursor_turned, with_cursor_turned             a cursor has made its turns, and got the member that it then takes
 use Rattle.std.specs.Prelude.{ℕ, List, Option, Some, None, is_some, drop}
 use Rattle.clone_values.specs.KeyTree.{KeyTree}
-use Rattle.index_tables.specs.Rows.{RowTree}
+use Rattle.idb_cursors.specs.Rows.{RowTree}
 use Rattle.idb_cursors.specs.Cursors.{cursor_after, iterated, turn_of}
 use Rattle.request_lists.specs.declared.entries.Phase.{Phase}
 use Rattle.request_lists.specs.declared.entries.Phase.TheVariants as phase

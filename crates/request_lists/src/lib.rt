@@ -21,6 +21,3 @@ pub use entries::{FrontCursor, ListEntry, Phase};
 pub use front::TxFront;
 pub use handlers::{Handler, HandlerEnd};
 pub use refusing::{Refusal, Refused};
-
-#[cfg(test)]
-mod tests;

@@ -1,5 +1,7 @@
 // The calls of an upgrade: the schema changes at once, and an entry is added at the end of the list.
 ghost use Rattle.std.specs.Prelude.{◌≡◌, None, OnOk, OnErr, IfOk, IfErr};
+ghost use Rattle.version_upgrade.specs.Upgrades.{refusal_of_schema, schema_after};
+ghost use Rattle.request_lists.specs.declared.refusing.Refusal.TheVariants as refusal;
 ghost use Rattle.request_lists.specs.Refusals.{is_store_gone, refusal_of_change};
 ghost use Rattle.request_lists.specs.Placing.{after_schema_call, IsRefusal, Becomes};
 
@@ -23,14 +25,27 @@ impl<H: Drop> TxFront<H> {
         ensures unchanged { OnErr result (self.new ≡ self.old) }
         ensures becomes { Becomes self.old self.new }
     {
-        if let Some(name) = self.refusal_of_change(&call) {
-            return Err(Refusal::Name(name));
+        match self.refusal_of_change(&call) {
+            Some(name) => {
+                drop(call);
+                Err(Refusal::Name(name))
+            }
+            None => self.change(call),
         }
-        let copy = copied(self.alloc, &call)?;
+    }
+
+    /// Makes a change that is not refused.
+    fn change(&mut self, call: SchemaCall) -> Result<(), Refusal>
+        requires { refusal_of_schema self.old.schema call ≡ None }
+        ensures changed { OnOk result (self.new ≡ after_schema_call call self.old) }
+        ensures memory { IfErr result (λ r. r ≡ refusal.NoMemory) }
+        ensures unchanged { OnErr result (self.new ≡ self.old) }
+    {
         if self.waiting.reserve(1).is_err() {
+            drop(call);
             return Err(Refusal::NoMemory);
         }
-        apply_schema(self.alloc, &mut self.schema, copy)?;
+        apply(self.alloc, &mut self.schema, &call)?;
         self.waiting.push_back_reserved(ListEntry::Change { call });
         Ok(())
     }
@@ -65,6 +80,16 @@ fn is_store_gone(schema: &Schema, call: &SchemaCall) -> bool
         SchemaCall::CreateIndex { store, .. } => is_store_deleted(schema, *store),
         SchemaCall::DropIndex { store, .. } => is_store_deleted(schema, *store),
     }
+}
+
+/// Changes the schema by the call.
+fn apply(alloc: Global, schema: &mut Schema, call: &SchemaCall) -> Result<(), NoMemory>
+    requires { refusal_of_schema schema.old call.now ≡ None }
+    ensures changed { OnOk result (schema.new ≡ schema_after schema.old call.now) }
+    ensures unchanged { OnErr result (schema.new ≡ schema.old) }
+{
+    let copy = copied(alloc, call)?;
+    apply_schema(alloc, schema, copy)
 }
 
 /// An equal call.

@@ -10,6 +10,3 @@ mod turns;
 pub use laws_of_answers::answer_laws;
 pub use reads::read_store;
 pub use turns::turn_over;
-
-#[cfg(test)]
-mod tests;

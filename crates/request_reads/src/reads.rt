@@ -109,8 +109,7 @@ fn read_values<T: Tables>(
 {
     answer_laws();
     let _sound = store.info();
-    let range = range_of_query(alloc, query)?;
-    let value = get_all_values(alloc, store, over, &range, limit_said(count))?;
+    let value = values_in_range(alloc, store, over, query, limit_said(count))?;
     match has_few_items(&value) {
         true => return Ok(value),
         false => return Err(NoMemory),
@@ -131,12 +130,41 @@ fn read_keys<T: Tables>(
 {
     answer_laws();
     let _sound = store.info();
-    let range = range_of_query(alloc, query)?;
-    let value = get_all_keys(alloc, store, over, &range, limit_said(count))?;
+    let value = keys_in_range(alloc, store, over, query, limit_said(count))?;
     match has_few_items(&value) {
         true => return Ok(value),
         false => return Err(NoMemory),
     }
+}
+
+/// The values of the records that the query asks for, up to this many.
+fn values_in_range<T: Tables>(
+    alloc: Global,
+    store: &StoreVersion<T>,
+    over: Over,
+    query: &Query,
+    limit: u32,
+) -> Result<Value, NoMemory>
+    ensures { IfOk result (λ v. tree_of v
+        ≡ values_answer store.now.store over (range_of_query query.now) limit) }
+{
+    let range = range_of_query(alloc, query)?;
+    get_all_values(alloc, store, over, &range, limit)
+}
+
+/// The primary keys of the records that the query asks for, up to this many.
+fn keys_in_range<T: Tables>(
+    alloc: Global,
+    store: &StoreVersion<T>,
+    over: Over,
+    query: &Query,
+    limit: u32,
+) -> Result<Value, NoMemory>
+    ensures { IfOk result (λ v. tree_of v
+        ≡ keys_answer store.now.store over (range_of_query query.now) limit) }
+{
+    let range = range_of_query(alloc, query)?;
+    get_all_keys(alloc, store, over, &range, limit)
 }
 
 /// Whether an Array has no more items than a value may have.

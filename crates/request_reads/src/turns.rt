@@ -54,9 +54,33 @@ pub fn turn_over<T: Tables, H: Drop>(
         return Ok(Value::Null);
     };
     let keys_only = cursor.cursor.keys_only();
+    match place_asked(alloc, front, number, store, over, call)? {
+        Some(place) => {
+            let answer = member_answer(alloc, store, over, place, keys_only)?;
+            return Ok(answer);
+        }
+        None => return Ok(Value::Null),
+    }
+}
+
+/// The place of the member that the turns for which the call asks take.
+fn place_asked<T: Tables, H: Drop>(
+    alloc: Global,
+    front: &mut TxFront<H>,
+    number: u32,
+    store: &StoreVersion<T>,
+    over: Over,
+    call: &Call,
+) -> Result<Option<usize>, NoMemory>
+    requires { IsFitCall call.now }
+    ensures found { IfOk result (λ place. place ≡ turn_found (shown_in store.now.store over)
+        (cursor_of front.old number) (key_asked call.now) (primary_asked call.now) (more_turns call.now)) }
+    ensures moved { IfOk result (λ place. front.new
+        ≡ with_cursor_turned number (shown_in store.now.store over) place front.old) }
+{
     let key = key_asked(alloc, call)?;
     let primary = primary_asked(alloc, call)?;
-    match place_taken(
+    place_taken(
         front,
         number,
         store,
@@ -64,13 +88,7 @@ pub fn turn_over<T: Tables, H: Drop>(
         lent(&key),
         lent(&primary),
         turn_count(call),
-    )? {
-        Some(place) => {
-            let answer = member_answer(alloc, store, over, place, keys_only)?;
-            return Ok(answer);
-        }
-        None => return Ok(Value::Null),
-    }
+    )
 }
 
 /// The place of the member that the turns take, over what the store or its index shows.

@@ -12,6 +12,3 @@ mod unfinished;
 pub use laws_of_starts::start_laws;
 pub use tickets::Ticket;
 pub use unfinished::{MayStart, ScopeDesk};
-
-#[cfg(test)]
-mod tests;

@@ -1,5 +1,5 @@
 // Which form of expression a document spells, and which documents its parts are.
-ghost use Rattle.std.specs.Prelude.{◌≡◌, [], ◌++◌, map, Bool, true, false, None, Some, option_map, IfOk, IsTrue, if◌then◌else◌};
+ghost use Rattle.std.specs.Prelude.{◌≡◌, [], ◌∷◌, ◌++◌, map, Bool, true, false, None, Some, option_map, IfOk, IsTrue, if◌then◌else◌};
 ghost use Rattle.idb_base.specs.Results.{Gives};
 ghost use Rattle.idb_base.specs.Lists.{IsWithinLimit};
 ghost use Rattle.clone_values.specs.Tree.{undefined};
@@ -7,9 +7,10 @@ ghost use Rattle.clone_values.specs.View.{prop_of};
 ghost use Rattle.clone_values.specs.WellFormed.{is_within_limit};
 ghost use Rattle.serde_json.specs.View.{view, items_view, members_view};
 ghost use Rattle.value_json.specs.Reading.{IsUnread};
-ghost use Rattle.value_json.specs.Levels.{level_seen};
+ghost use Rattle.value_json.specs.Levels.{level_seen, items_level, named_items_level, members_level, named_members_level, entries_level, set_level};
 ghost use Rattle.script_exprs.specs.Forms.{two_in, three_in, name_in, formula_named, formula_of, path_of_one, formula_in, listed_behind, entries_behind, property_name, named_behind, members_behind, are_apart, apart_as, level_parts, spelled_in};
 ghost use Rattle.script_exprs.specs.Documents.{datas_of, form_seen, named_seen};
+ghost use Rattle.script_exprs.specs.declared.forms.Formula.TheVariants as formula;
 
 use crate::expr::{ExprForm, Literal};
 use clone_values::{PathSpec, Prop, Props, Text, Value, is_array_name};
@@ -85,35 +86,69 @@ fn formula_parts<'a>(
 ) -> Result<(ExprForm, Vec<&'a Json>), JsonError>
     ensures { Gives IsUnread form_seen result (formula_in formula (view json.now)) }
 {
-    let mut parts = Vec::new(alloc);
     match formula {
-        Formula::Var => Ok((ExprForm::Var(name_from_json(alloc, json)?), parts)),
-        Formula::Plus => {
-            let (first, second) = two_of(json)?;
-            parts.push(first)?;
-            parts.push(second)?;
-            Ok((ExprForm::Plus, parts))
-        }
-        Formula::Prop => {
-            let (of, path) = two_of(json)?;
-            let form = path_of(name_from_json(alloc, path)?)?;
-            parts.push(of)?;
-            Ok((form, parts))
-        }
-        Formula::With => {
-            let (of, name, value) = three_of(json)?;
-            let name = name_from_json(alloc, name)?;
-            parts.push(of)?;
-            parts.push(value)?;
-            Ok((ExprForm::With(name), parts))
-        }
-        Formula::Same => {
-            let (first, second) = two_of(json)?;
-            parts.push(first)?;
-            parts.push(second)?;
-            Ok((ExprForm::Same, parts))
-        }
+        Formula::Var => var_parts(alloc, json),
+        Formula::Plus => plus_parts(alloc, json),
+        Formula::Prop => prop_parts(alloc, json),
+        Formula::With => with_parts(alloc, json),
+        Formula::Same => same_parts(alloc, json),
     }
+}
+
+fn var_parts<'a>(alloc: Global, json: &'a Json) -> Result<(ExprForm, Vec<&'a Json>), JsonError>
+    ensures { Gives IsUnread form_seen result (formula_in formula.Var (view json.now)) }
+{
+    let name = name_from_json(alloc, json)?;
+    Ok((ExprForm::Var(name), Vec::new(alloc)))
+}
+
+fn plus_parts<'a>(alloc: Global, json: &'a Json) -> Result<(ExprForm, Vec<&'a Json>), JsonError>
+    ensures { Gives IsUnread form_seen result (formula_in formula.Plus (view json.now)) }
+{
+    let (first, second) = two_of(json)?;
+    let parts = list_of_two(alloc, first, second)?;
+    Ok((ExprForm::Plus, parts))
+}
+
+fn prop_parts<'a>(alloc: Global, json: &'a Json) -> Result<(ExprForm, Vec<&'a Json>), JsonError>
+    ensures { Gives IsUnread form_seen result (formula_in formula.Prop (view json.now)) }
+{
+    let (of, path) = two_of(json)?;
+    let mut parts = Vec::new(alloc);
+    parts.push(of)?;
+    let name = name_from_json(alloc, path)?;
+    let form = path_of(name)?;
+    Ok((form, parts))
+}
+
+fn with_parts<'a>(alloc: Global, json: &'a Json) -> Result<(ExprForm, Vec<&'a Json>), JsonError>
+    ensures { Gives IsUnread form_seen result (formula_in formula.With (view json.now)) }
+{
+    let (of, name, value) = three_of(json)?;
+    let parts = list_of_two(alloc, of, value)?;
+    let name = name_from_json(alloc, name)?;
+    Ok((ExprForm::With(name), parts))
+}
+
+fn same_parts<'a>(alloc: Global, json: &'a Json) -> Result<(ExprForm, Vec<&'a Json>), JsonError>
+    ensures { Gives IsUnread form_seen result (formula_in formula.Same (view json.now)) }
+{
+    let (first, second) = two_of(json)?;
+    let parts = list_of_two(alloc, first, second)?;
+    Ok((ExprForm::Same, parts))
+}
+
+fn list_of_two<'a>(
+    alloc: Global,
+    first: &'a Json,
+    second: &'a Json,
+) -> Result<Vec<&'a Json>, NoMemory>
+    ensures { IfOk result (λ parts. datas_of parts.items ≡ view first.now ∷ view second.now ∷ []) }
+{
+    let mut parts = Vec::new(alloc);
+    parts.push(first)?;
+    parts.push(second)?;
+    Ok(parts)
 }
 
 // What a list of two holds.
@@ -204,26 +239,72 @@ fn level_parts<'a>(alloc: Global, level: Level<'a>) -> Result<(ExprForm, Vec<&'a
 {
     match level {
         Level::Leaf(value) => Ok((ExprForm::Literal(Literal::new(value)), Vec::new(alloc))),
-        Level::Array(list) => Ok((
-            ExprForm::Array(Listed::new(alloc)),
-            listed_behind(Vec::new(alloc), list)?,
-        )),
-        Level::NamedArray(list, names) => {
-            let items = listed_behind(Vec::new(alloc), list)?;
-            let (names, parts) = named_behind(alloc, true, items, names)?;
-            Ok((ExprForm::Array(names_apart(alloc, names)?), parts))
-        }
-        Level::Object(members) => {
-            let (names, parts) = members_behind(alloc, members)?;
-            Ok((ExprForm::Object(names), parts))
-        }
-        Level::NamedObject(names) => {
-            let (names, parts) = named_behind(alloc, false, Vec::new(alloc), names)?;
-            Ok((ExprForm::Object(names_apart(alloc, names)?), parts))
-        }
-        Level::Map(list) => Ok((ExprForm::Map, entries_behind(Vec::new(alloc), list)?)),
-        Level::Set(list) => Ok((ExprForm::Set, listed_behind(Vec::new(alloc), list)?)),
+        Level::Array(list) => array_parts(alloc, list),
+        Level::NamedArray(list, names) => named_array_parts(alloc, list, names),
+        Level::Object(members) => object_parts(alloc, members),
+        Level::NamedObject(names) => named_object_parts(alloc, names),
+        Level::Map(list) => map_parts(alloc, list),
+        Level::Set(list) => set_parts(alloc, list),
     }
+}
+
+fn array_parts<'a>(
+    alloc: Global,
+    list: &'a Vec<Json>,
+) -> Result<(ExprForm, Vec<&'a Json>), JsonError>
+    ensures { Gives IsUnread form_seen result (level_parts (items_level (items_view list.now.items))) }
+{
+    let parts = listed_behind(Vec::new(alloc), list)?;
+    Ok((ExprForm::Array(Listed::new(alloc)), parts))
+}
+
+fn named_array_parts<'a>(
+    alloc: Global,
+    list: &'a Vec<Json>,
+    names: &'a Vec<Json>,
+) -> Result<(ExprForm, Vec<&'a Json>), JsonError>
+    ensures { Gives IsUnread form_seen result
+        (level_parts (named_items_level (items_view list.now.items) (items_view names.now.items))) }
+{
+    let items = listed_behind(Vec::new(alloc), list)?;
+    let (names, parts) = named_behind(alloc, true, items, names)?;
+    Ok((ExprForm::Array(names_apart(alloc, names)?), parts))
+}
+
+fn object_parts<'a>(
+    alloc: Global,
+    members: &'a Map<String, Json>,
+) -> Result<(ExprForm, Vec<&'a Json>), JsonError>
+    ensures { Gives IsUnread form_seen result
+        (level_parts (members_level (members_view members.now.entries))) }
+{
+    let (names, parts) = members_behind(alloc, members)?;
+    Ok((ExprForm::Object(names), parts))
+}
+
+fn named_object_parts<'a>(
+    alloc: Global,
+    names: &'a Vec<Json>,
+) -> Result<(ExprForm, Vec<&'a Json>), JsonError>
+    ensures { Gives IsUnread form_seen result
+        (level_parts (named_members_level (items_view names.now.items))) }
+{
+    let (names, parts) = named_behind(alloc, false, Vec::new(alloc), names)?;
+    Ok((ExprForm::Object(names_apart(alloc, names)?), parts))
+}
+
+fn map_parts<'a>(alloc: Global, list: &'a Vec<Json>) -> Result<(ExprForm, Vec<&'a Json>), JsonError>
+    ensures { Gives IsUnread form_seen result (level_parts (entries_level (items_view list.now.items))) }
+{
+    let parts = entries_behind(Vec::new(alloc), list)?;
+    Ok((ExprForm::Map, parts))
+}
+
+fn set_parts<'a>(alloc: Global, list: &'a Vec<Json>) -> Result<(ExprForm, Vec<&'a Json>), JsonError>
+    ensures { Gives IsUnread form_seen result (level_parts (set_level (items_view list.now.items))) }
+{
+    let parts = listed_behind(Vec::new(alloc), list)?;
+    Ok((ExprForm::Set, parts))
 }
 
 // The documents of a list, behind those before it.

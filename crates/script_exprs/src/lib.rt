@@ -9,8 +9,6 @@ mod expr;
 mod expressions;
 mod forms;
 mod limits;
-#[cfg(test)]
-mod tests;
 
 pub use expr::{Expr, ExprForm, Literal};
 pub use expressions::expr_from_json;

@@ -146,7 +146,13 @@ fn ask_to_store<H: Drop>(
                 Err(error) => return Ok(Ask::Refused { error }),
             };
             let value = value(alloc, env, given)?;
-            let key = key(alloc, env, given_key)?;
+            let key = match key(alloc, env, given_key) {
+                Ok(key) => key,
+                Err(e) => {
+                    drop(value);
+                    return Err(e);
+                }
+            };
             Ok(requests(Call::Add { store, value, key }, *success, *error))
         }
         Stmt::Put {
@@ -161,7 +167,13 @@ fn ask_to_store<H: Drop>(
                 Err(error) => return Ok(Ask::Refused { error }),
             };
             let value = value(alloc, env, given)?;
-            let key = key(alloc, env, given_key)?;
+            let key = match key(alloc, env, given_key) {
+                Ok(key) => key,
+                Err(e) => {
+                    drop(value);
+                    return Err(e);
+                }
+            };
             Ok(requests(Call::Put { store, value, key }, *success, *error))
         }
         _ => Err(NoMemory),
@@ -237,6 +249,22 @@ fn ask_to_list<H: Drop>(
     ensures formed { IfOk result IsAsk }
 {
     match statement {
+        Stmt::GetAll { .. } => ask_for_values(alloc, front, env, statement),
+        Stmt::GetAllKeys { .. } => ask_for_keys(alloc, front, env, statement),
+        _ => Err(NoMemory),
+    }
+}
+
+fn ask_for_values<H: Drop>(
+    alloc: Global,
+    front: &TxFront<H>,
+    env: &Env,
+    statement: &Stmt,
+) -> Result<Ask, NoMemory>
+    ensures asked { IfOk result (λ a. a ≡ ask_of front.now env.now statement.now) }
+    ensures formed { IfOk result IsAsk }
+{
+    match statement {
         Stmt::GetAll {
             store,
             index,
@@ -250,8 +278,8 @@ fn ask_to_list<H: Drop>(
                 Ok(target) => target,
                 Err(error) => return Ok(Ask::Refused { error }),
             };
-            let query = query(alloc, env, given, range)?;
             let count = count(alloc, env, asked)?;
+            let query = query(alloc, env, given, range)?;
             let call = Call::GetAll {
                 target,
                 query,
@@ -259,6 +287,20 @@ fn ask_to_list<H: Drop>(
             };
             Ok(requests(call, *success, *error))
         }
+        _ => Err(NoMemory),
+    }
+}
+
+fn ask_for_keys<H: Drop>(
+    alloc: Global,
+    front: &TxFront<H>,
+    env: &Env,
+    statement: &Stmt,
+) -> Result<Ask, NoMemory>
+    ensures asked { IfOk result (λ a. a ≡ ask_of front.now env.now statement.now) }
+    ensures formed { IfOk result IsAsk }
+{
+    match statement {
         Stmt::GetAllKeys {
             store,
             index,
@@ -272,8 +314,8 @@ fn ask_to_list<H: Drop>(
                 Ok(target) => target,
                 Err(error) => return Ok(Ask::Refused { error }),
             };
-            let query = query(alloc, env, given, range)?;
             let count = count(alloc, env, asked)?;
+            let query = query(alloc, env, given, range)?;
             let call = Call::GetAllKeys {
                 target,
                 query,

@@ -9,8 +9,6 @@ mod asks;
 mod handlers;
 mod lent_fronts;
 mod running;
-#[cfg(test)]
-mod tests;
 mod values;
 
 pub use handlers::ScriptHandler;

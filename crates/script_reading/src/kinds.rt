@@ -16,6 +16,7 @@ use script_exprs::{expr_from_json, name_from_json};
 use script_statements::{BlockPlace, RangeExpr};
 use serde_json::{Map, Value as Json};
 use std::alloc::Global;
+use std::mem::replace;
 use value_json::JsonError;
 
 /// The place of the block that is named.
@@ -206,9 +207,11 @@ fn read_bound(
     ensures { Gives IsUnread (λ _. range.new) result (range_with name.now (view json.now) range.old) }
 {
     if name == "lower" {
-        range.lower = Some(expr_from_json(alloc, json)?);
+        let bound = expr_from_json(alloc, json)?;
+        drop(replace(&mut range.lower, Some(bound)));
     } else if name == "upper" {
-        range.upper = Some(expr_from_json(alloc, json)?);
+        let bound = expr_from_json(alloc, json)?;
+        drop(replace(&mut range.upper, Some(bound)));
     } else if name == "lowerOpen" {
         range.lower_open = flag_of(json)?;
     } else if name == "upperOpen" {

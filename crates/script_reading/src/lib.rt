@@ -14,8 +14,6 @@ mod ops;
 mod places;
 mod reading;
 mod statements;
-#[cfg(test)]
-mod tests;
 
 pub use error::ScriptError;
 pub use layers::script_from_json;

@@ -1,8 +1,9 @@
 -- One more session is reported.
-use Rattle.std.proofs.Common.{◌≡◌, inl, inr, ℕ, ◌+◌, List, [], ◌∷◌, ◌++◌, length, Option, None, Some, refl, subst, arith}
+use Rattle.std.proofs.Common.{◌≡◌, inl, inr, ℕ, Bool, ◌+◌, ◌==◌, List, [], ◌∷◌, ◌++◌, length, Option, None, Some, if◌then◌else◌, refl, ap, subst, ◌∙◌, arith}
+use Rattle.std.proofs.lemmas.Bool.{ne_eqb}
 use Rattle.disk_trait.specs.Disk.{DiskView, WhereTold, NoNewImage}
 use Rattle.script_statements.specs.declared.script.ScriptSession.{ScriptSession}
-use Rattle.script_runner.specs.Sessions.{SessionRun, SessionDone, GivenAfter, LeavesAfter, BeginsAfter, IsReported, AreReported, last_run}
+use Rattle.script_runner.specs.Sessions.{SessionRun, SessionDone, GivenAfter, starts_of, starts_after_run, LeavesAfter, BeginsAfter, IsReported, AreReported, last_run}
 
 pub one_more : (entry : DiskView) (before : Option SessionRun) (n m : ℕ) (front : List ScriptSession) (dones : List SessionDone) (session : ScriptSession) (done : SessionDone)
     → m ≡ n + length front → AreReported entry before n front dones → BeginsAfter entry (last_run before dones) done.run → IsReported m session done
@@ -31,6 +32,16 @@ module _ (entry now mid : DiskView) where
   given_after (s ∷ ss) [] number many all leaves first given = absurd all
   given_after (s ∷ ss) (d ∷ ds) number many all leaves first given =
       of_last d.run ds (λ o. LeavesAfter entry o now → GivenAfter entry o mid.reads) (λ last left areas told. left areas (given areas told)) leaves
+
+  pub started_after : (front : List ScriptSession) (dones : List SessionDone) (number : ℕ) → number ≡ length front → AreReported entry None 1 front dones
+      → now.starts ≡ starts_of entry (last_run None dones) → mid.starts ≡ (if number == 0 then now.starts else now.starts + 1)
+      → mid.starts ≡ starts_after_run entry (last_run None dones)
+  started_after [] [] number many all so_far again = again ∙ ap (λ (n : ℕ). if n == 0 then now.starts else now.starts + 1) many ∙ so_far
+  started_after [] (d ∷ ds) number many all so_far again = absurd all
+  started_after (s ∷ ss) [] number many all so_far again = absurd all
+  started_after (s ∷ ss) (d ∷ ds) number many all so_far again =
+      of_last d.run ds (λ o. now.starts ≡ starts_of entry o → mid.starts ≡ starts_after_run entry o)
+      (λ last is. again ∙ ap (λ (b : Bool). if b then now.starts else now.starts + 1) (ne_eqb number 0 (λ none. absurd (omega (arith, many, none)))) ∙ ap (λ (n : ℕ). n + 1) is) so_far
 
   pub leaves_still : (before : Option SessionRun) → LeavesAfter entry before now → NoNewImage now mid → LeavesAfter entry before mid
   leaves_still None (inl left) none_new = inl (λ image may. left image (none_new image may))

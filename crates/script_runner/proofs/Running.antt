@@ -1,5 +1,5 @@
 -- The sessions so far, and one more.
-use Rattle.std.proofs.Common.{◌≡◌, inl, inr, ℕ, ◌+◌, ◌≤◌, true, is_some, Result, List, [], ◌∷◌, ◌++◌, length, Option, None, Some, Ok, Err, refl, sym, ap, subst, ◌∙◌, arith, append_assoc, length-append}
+use Rattle.std.proofs.Common.{◌≡◌, inl, inr, ℕ, ◌+◌, ◌-◌, ◌^◌, ◌≤◌, ◌==◌, true, is_some, if◌then◌else◌, Result, List, [], ◌∷◌, ◌++◌, length, Option, None, Some, Ok, Err, refl, sym, ap, subst, ◌∙◌, arith, append_assoc, length-append}
 use Rattle.std.specs.Io.KnownBytes.{Appends}
 use Rattle.std.proofs.KnownBytes.{Appends-nil, Appends-trans}
 use Rattle.std.proofs.lemmas.List.{flat_map_more}
@@ -12,18 +12,18 @@ use Rattle.item_changes.specs.Items.{Items}
 use Rattle.log_history.specs.Found.{found}
 use Rattle.idb_recovery.specs.declared.error.RecoverError.{RecoverError}
 use Rattle.idb_recovery.specs.declared.error.RecoverError.TheVariants as error
-use Rattle.session_driver.specs.Ending.{own_log_end, ReportsOn, StopsOn}
-use Rattle.session_driver.specs.declared.entering.Halt.{Halt}
-use Rattle.session_driver.specs.declared.entering.Halt.TheVariants as halt
+use Rattle.session_driver.specs.Ending.{ReportsOn, StopsOn}
 use Rattle.report_lines.specs.ReportText.{text_of_report}
 use Rattle.report_lines.specs.declared.reports.Report.{Report}
+use Rattle.report_lines.specs.declared.reports.ReportEnd.{ReportEnd}
+use Rattle.report_lines.specs.declared.reports.ReportEnd.TheVariants as end
 use Rattle.script_statements.specs.declared.script.ScriptSession.{ScriptSession}
-use Rattle.script_runner.specs.Sessions.{SessionRun, SessionDone, IsLeftBy, GivenAfter, LeavesAfter, BeginsAfter, AreReported, last_run, texts_of, EndsBetween, EndsWithin, IsCutOff}
+use Rattle.script_runner.specs.Sessions.{SessionRun, SessionDone, IsLeftBy, GivenAfter, starts_of, starts_after_run, LeavesAfter, BeginsAfter, AreReported, last_run, texts_of, one_if_fault, fault_ends, IsCounted, EndsBetween, EndsWithin, IsCutOff}
 use Rattle.script_runner.specs.Running.{IsOpenedOn, IsUnopened, RanOn, StopsIn, StopsBy, EndsBy, RanSoFar}
-use Rattle.script_runner.specs.Stops.{stop_of_recovery, stop_of_halt}
+use Rattle.script_runner.specs.Stops.{stop_of_recovery}
 use Rattle.script_runner.specs.declared.stops.Stop.{Stop}
 use Rattle.script_runner.specs.declared.stops.Stop.TheVariants as stop
-use Rattle.script_runner.proofs.Reported.{one_more, last_more, given_after, leaves_still}
+use Rattle.script_runner.proofs.Reported.{one_more, last_more, given_after, started_after, leaves_still}
 
 -- what is found as it was where a session may have left it, it may leave
 pub left_again : (run : SessionRun) (before after : Areas) → found after ≡ found before → IsLeftBy run before → IsLeftBy run after
@@ -37,9 +37,10 @@ unopened_leaves entry mid left (Some last) leaves given (inr same) = λ image ma
     let c = same image may in left_again last c.given image c.stepped.items (given c.given c.was_given)
 
 -- what reads gave was found as databases, so it came damaged to the first session only
-pub begun_on : (entry mid : DiskView) (before : Option SessionRun) (run : SessionRun) → GivenAfter entry before mid.reads → IsOpenedOn mid run → BeginsAfter entry before run
-begun_on entry mid before run given opened = record {
+pub begun_on : (entry mid : DiskView) (before : Option SessionRun) (run : SessionRun) → GivenAfter entry before mid.reads → mid.starts ≡ starts_after_run entry before → IsOpenedOn mid run → BeginsAfter entry before run
+begun_on entry mid before run given started opened = record {
   given = subst (GivenAfter entry before) (sym opened.told) given;
+  started = opened.started ∙ started;
   found_so = opened.found_so;
 }
 
@@ -68,13 +69,14 @@ rose_since first then_ now since (inr end) = inr end
 
 -- ---- one session
 pub ran_so : (old left : DiskView) (number : ℕ) (session : ScriptSession) (report : Report) (opening : Items) → WhereTold old (λ areas. found areas ≡ Ok opening)
-    → ReportsOn session number opening report left → RanOn old left number session report
-ran_so old left number session report opening here reports = record {
-  run = record { told = old.reads; opening = opening; commits = reports.commits; end = own_log_end session.drop_end };
+    → ReportsOn session number opening report left → left.starts ≡ old.starts → (report.end ≡ end.Fault → Rose old.faults left.faults) → RanOn old left number session report
+ran_so old left number session report opening here reports started fault = record {
+  run = record { told = old.reads; starts = old.starts; opening = opening; commits = reports.commits; end = reports.log_end };
   closing = reports.closing;
-  opened = record { told = refl; found_so = here };
+  opened = record { told = refl; started = refl; found_so = here };
+  started = started;
   legal = reports.legal;
-  ended = refl;
+  fault = fault;
   images = reports.images;
 }
 
@@ -88,20 +90,35 @@ unopened_stops old left e why is unopened fault damage = subst (λ w. StopsBy �
     by_error (error.Damaged area place) fault damage = (unopened, damage area place refl)
     by_error error.NoMemory fault damage = inl unopened
 
-pub halted_stops : (old left : DiskView) (opening : Items) (h : Halt) (why : Stop) → why ≡ stop_of_halt h → WhereTold old (λ areas. found areas ≡ Ok opening) → StopsOn opening left
-    → (h ≡ halt.DiskFault → Rose old.faults left.faults) → StopsBy ⊥ why old left
-halted_stops old left opening h why is here stops fault = subst (λ w. StopsBy ⊥ w old left) (sym is) (by_halt h fault)
-  where
-    within : StopsIn old left
-    within = record {
-      run = record { told = old.reads; opening = opening; commits = stops.commits; end = stops.end };
-      opened = record { told = refl; found_so = here };
-      images = stops.images;
-    }
+pub stopped_in : (old left : DiskView) (opening : Items) → WhereTold old (λ areas. found areas ≡ Ok opening) → StopsOn opening left → StopsIn old left
+stopped_in old left opening here stops = record {
+  run = record { told = old.reads; starts = old.starts; opening = opening; commits = stops.commits; end = stops.log_end };
+  opened = record { told = refl; started = refl; found_so = here };
+  images = stops.images;
+}
 
-    by_halt : (h : Halt) → (h ≡ halt.DiskFault → Rose old.faults left.faults) → StopsBy ⊥ (stop_of_halt h) old left
-    by_halt halt.DiskFault fault = (within, fault refl)
-    by_halt halt.NoMemory fault = inr within
+-- ---- faults
+pub counted_later : (before many then_ now : ℕ) → IsCounted before many then_ → then_ ≤ now → IsCounted before many now
+counted_later before many then_ now (inl c) le = inl (omega (arith, c, le))
+counted_later before many then_ now (inr most) le = inr (omega (arith, most, le))
+
+fault_ends_more : (done : List SessionDone) (d : SessionDone) → fault_ends (done ++ d ∷ []) ≡ fault_ends done + one_if_fault d.report.end
+fault_ends_more [] d = omega arith
+fault_ends_more (e ∷ done) d = let k = fault_ends_more done d in omega (arith, k)
+
+-- one session more
+counted_one : (before many then_ mid now : ℕ) (how : ReportEnd) → IsCounted before many then_ → then_ ≤ mid → mid ≤ now → (how ≡ end.Fault → Rose mid now) → IsCounted before (many + one_if_fault how) now
+counted_one before many then_ mid now end.Flush (inl c) le more rose = inl (omega (arith, c, le, more))
+counted_one before many then_ mid now end.Drop (inl c) le more rose = inl (omega (arith, c, le, more))
+counted_one before many then_ mid now end.Fault (inl c) le more rose = by_rose (rose refl)
+  where
+    by_rose : Rose mid now → IsCounted before (many + 1) now
+    by_rose (inl less) = inl (omega (arith, c, le, less))
+    by_rose (inr most) = inr most
+counted_one before many then_ mid now how (inr most) le more rose = inr (omega (arith, most, le, more))
+
+counted_more : (before then_ mid now : ℕ) (done : List SessionDone) (d : SessionDone) → IsCounted before (fault_ends done) then_ → then_ ≤ mid → mid ≤ now → (d.report.end ≡ end.Fault → Rose mid now) → IsCounted before (fault_ends (done ++ d ∷ [])) now
+counted_more before then_ mid now done d c le more rose = subst (λ n. IsCounted before n now) (sym (fault_ends_more done d)) (counted_one before (fault_ends done) then_ mid now d.report.end c le more rose)
 
 -- of a session that ran to its report there is none after all
 pub ran_unreported : (old left : DiskView) (number : ℕ) (session : ScriptSession) (report : Report) → RanOn old left number session report → StopsIn old left
@@ -115,6 +132,8 @@ none_ran entry all rest held same = record {
   split = sym same;
   reported = tt;
   leaves = inl (λ image may. may);
+  started = refl;
+  counted = inl (omega arith);
   appended = Appends-nil held;
   many = refl;
   fresh = λ none. refl;
@@ -128,8 +147,8 @@ module _ (entry now : DiskView) (all rest : List ScriptSession) (held held_now :
   abbrev pub before : Option SessionRun
   before = last_run None ran.done
 
-  pub stands_still : (left : DiskView) → NoNewImage now left → EndsBetween entry left all held held_now
-  stands_still left none_new = (
+  pub stands_still : (left : DiskView) → NoNewImage now left → now.faults ≤ left.faults → EndsBetween entry left all held held_now
+  stands_still left none_new more = (
     ran.done,
     record {
       front = ran.front;
@@ -137,18 +156,22 @@ module _ (entry now : DiskView) (all rest : List ScriptSession) (held held_now :
       split = ran.split;
       reported = ran.reported;
       leaves = leaves_still entry now left before ran.leaves none_new;
+      counted = counted_later entry.faults (fault_ends ran.done) now.faults left.faults ran.counted more;
     },
     ran.appended,
   )
 
 module _ (entry now mid left : DiskView) (all : List ScriptSession) (session : ScriptSession) (rest : List ScriptSession) (held held_now held_then : Option (List ℕ)) (number next : ℕ)
     (ran : RanSoFar entry now all (session ∷ rest) held held_now number) (one : next ≡ number + 1)
-    (none_new : NoNewImage now mid) (first : number ≡ 0 → mid.reads ≡ now.reads) (told : WhereTold mid now.may_leave) where
+    (none_new : NoNewImage now mid) (first : number ≡ 0 → mid.reads ≡ now.reads) (again : mid.starts ≡ (if number == 0 then now.starts else now.starts + 1)) (told : WhereTold mid now.may_leave) (so_far : now.faults ≤ mid.faults) (more : mid.faults ≤ left.faults) where
   abbrev last : Option SessionRun
   last = last_run None ran.done
 
   given : GivenAfter entry last mid.reads
   given = given_after entry now mid ran.front ran.done number ran.many ran.reported ran.leaves (λ none. first none ∙ ran.fresh none) told
+
+  started : mid.starts ≡ starts_after_run entry last
+  started = started_after entry now mid ran.front ran.done number ran.many ran.reported ran.started again
 
   leaves : LeavesAfter entry last mid
   leaves = leaves_still entry now mid last ran.leaves none_new
@@ -161,10 +184,13 @@ module _ (entry now mid left : DiskView) (all : List ScriptSession) (session : S
     done = record { run = run.run; report = report; closing = run.closing }
 
     reported_more : AreReported entry None 1 (ran.front ++ session ∷ []) (ran.done ++ done ∷ [])
-    reported_more = one_more entry None 1 next ran.front ran.done session done (omega (arith, one, ran.many)) ran.reported (begun_on entry mid last run.run given run.opened) (record { legal = run.legal; ended = run.ended })
+    reported_more = one_more entry None 1 next ran.front ran.done session done (omega (arith, one, ran.many)) ran.reported (begun_on entry mid last run.run given started run.opened) run.legal
 
     leaves_more : LeavesAfter entry (last_run None (ran.done ++ done ∷ [])) left
     leaves_more = subst (λ o. LeavesAfter entry o left) (sym (last_more None ran.done done)) run.images
+
+    count_more : IsCounted entry.faults (fault_ends (ran.done ++ done ∷ [])) left.faults
+    count_more = counted_more entry.faults now.faults mid.faults left.faults ran.done done ran.counted so_far more run.fault
 
     pub ran_more : Appends held_now held_then (text_of_report report) → RanSoFar entry left all rest held held_then next
     ran_more appended = record {
@@ -173,6 +199,8 @@ module _ (entry now mid left : DiskView) (all : List ScriptSession) (session : S
       split = split_more;
       reported = reported_more;
       leaves = leaves_more;
+      started = run.started ∙ sym run.opened.started ∙ sym (ap (starts_of entry) (last_more None ran.done done));
+      counted = count_more;
       appended = subst (Appends held held_then) (flat_map_more (λ (d : SessionDone). text_of_report d.report) [] ran.done done) (Appends-trans held held_now held_then _ _ ran.appended appended);
       many = omega (arith, one, ran.many, length-append ran.front (session ∷ []));
       fresh = λ none. absurd (omega (arith, one, none));
@@ -182,11 +210,14 @@ module _ (entry now mid left : DiskView) (all : List ScriptSession) (session : S
     cut_off front = record {
       whole = ran.done;
       cut = done;
-      stops = record { front = ran.front ++ session ∷ []; rest = rest; split = split_more; reported = reported_more; leaves = leaves_more };
+      stops = record { front = ran.front ++ session ∷ []; rest = rest; split = split_more; reported = reported_more; leaves = leaves_more; counted = count_more };
       n = front.0;
       front = front.1;
       appended = Appends-trans held held_now held_then _ _ ran.appended front.2;
     }
+
+  count_still : IsCounted entry.faults (fault_ends ran.done) left.faults
+  count_still = counted_later entry.faults (fault_ends ran.done) now.faults left.faults ran.counted (omega (arith, so_far, more))
 
   between : IsUnopened mid left → held_then ≡ held_now → EndsBetween entry left all held held_then
   between unopened same = (
@@ -197,6 +228,7 @@ module _ (entry now mid left : DiskView) (all : List ScriptSession) (session : S
       split = ran.split;
       reported = ran.reported;
       leaves = unopened_leaves entry mid left last leaves given unopened;
+      counted = count_still;
     },
     subst (λ h. Appends held h (texts_of ran.done)) (sym same) ran.appended,
   )
@@ -211,8 +243,9 @@ module _ (entry now mid left : DiskView) (all : List ScriptSession) (session : S
       split = ran.split;
       reported = ran.reported;
       run = stops.run;
-      begun = begun_on entry mid last stops.run given stops.opened;
+      begun = begun_on entry mid last stops.run given started stops.opened;
       images = stops.images;
+      counted = count_still;
     },
     subst (λ h. Appends held h (texts_of ran.done)) (sym same) ran.appended,
   )
@@ -229,7 +262,6 @@ module _ (entry now mid left : DiskView) (all : List ScriptSession) (session : S
     omega (arith, ap length ran.split, length-append ran.front (session ∷ rest)),
     damaged_so (area, place) tells stopped.1,
   )
-  have_stopped stop.NotBuilt stopped same tells since = (within stopped.0 (same (λ e. absurd cc)), rose_since entry.faults mid.faults left.faults since stopped.1)
   have_stopped stop.WriteFault stopped same tells since = cut_off stopped.0 stopped.1 stopped.2
   have_stopped stop.NoMemory (inl unopened) same tells since = inl (between unopened (same (λ e. absurd cc)))
   have_stopped stop.NoMemory (inr stops) same tells since = inr (within stops (same (λ e. absurd cc)))

@@ -15,16 +15,17 @@ use Rattle.item_changes.specs.Items.{Items}
 use Rattle.log_history.specs.Found.{found}
 use Rattle.idb_recovery.specs.Recovered.{SameAnswer}
 use Rattle.report_lines.specs.declared.reports.Report.{Report}
+use Rattle.report_lines.specs.declared.reports.ReportEnd.TheVariants as end
 use Rattle.script_statements.specs.declared.script.ScriptSession.{ScriptSession}
 use Rattle.legal_sessions.specs.Legal.{IsLegalReport}
-use Rattle.session_driver.specs.Ending.{own_log_end}
-use Rattle.script_runner.specs.Sessions.{SessionRun, SessionDone, IsLeftBy, LeavesAfter, AreReported, last_run, texts_of, EndsBetween, EndsWithin, IsCutOff}
+use Rattle.script_runner.specs.Sessions.{SessionRun, SessionDone, IsLeftBy, starts_of, LeavesAfter, AreReported, last_run, texts_of, fault_ends, IsCounted, EndsBetween, EndsWithin, IsCutOff}
 use Rattle.script_runner.specs.declared.stops.Stop.{Stop}
 use Rattle.script_runner.specs.declared.stops.Stop.TheVariants as stop
 
 -- ---- one session
 pub record IsOpenedOn (old : DiskView) (run : SessionRun) : Type 0 where
   pub told : run.told ≡ old.reads
+  pub started : run.starts ≡ old.starts
   pub found_so : ForSome run.told (λ areas. found areas ≡ Ok run.opening)
 
 abbrev pub IsUnopened : (old left : DiskView) → Type 0
@@ -34,8 +35,9 @@ pub record RanOn (old left : DiskView) (number : ℕ) (session : ScriptSession) 
   pub run : SessionRun
   pub closing : Items
   pub opened : IsOpenedOn old run
-  pub legal : IsLegalReport session number run.opening report run.commits closing
-  pub ended : run.end ≡ own_log_end session.drop_end
+  pub legal : IsLegalReport session number run.opening report run.commits run.end closing
+  pub started : left.starts ≡ old.starts
+  pub fault : report.end ≡ end.Fault → Rose old.faults left.faults
   pub images : EachImage left (IsLeftBy run)
 
 pub record StopsIn (old left : DiskView) : Type 0 where
@@ -46,7 +48,6 @@ pub record StopsIn (old left : DiskView) : Type 0 where
 abbrev pub StopsBy : (cut : Type 0) → Stop → (old left : DiskView) → Type 0
 StopsBy cut stop.DiskFault old left = IsUnopened old left × Rose old.faults left.faults
 StopsBy cut (stop.Damaged area place) old left = IsUnopened old left × WhereTold old (λ areas. found areas ≡ Err (area, place))
-StopsBy cut stop.NotBuilt old left = StopsIn old left × Rose old.faults left.faults
 StopsBy cut stop.WriteFault old left = cut
 StopsBy cut stop.NoMemory old left = IsUnopened old left ⊎ StopsIn old left
 
@@ -55,7 +56,6 @@ abbrev pub EndsBy : Stop → (entry left : DiskView) → List ScriptSession → 
 EndsBy stop.DiskFault entry left sessions held held_now = EndsBetween entry left sessions held held_now × Rose entry.faults left.faults
 EndsBy (stop.Damaged area place) entry left sessions held held_now =
     EndsBetween entry left sessions held held_now × (0 < length sessions) × WhereTold entry (λ areas. found areas ≡ Err (area, place))
-EndsBy stop.NotBuilt entry left sessions held held_now = EndsWithin entry left sessions held held_now × Rose entry.faults left.faults
 EndsBy stop.WriteFault entry left sessions held held_now = IsCutOff entry left sessions held held_now
 EndsBy stop.NoMemory entry left sessions held held_now = EndsBetween entry left sessions held held_now ⊎ EndsWithin entry left sessions held held_now
 
@@ -66,6 +66,8 @@ pub record RanSoFar (entry now : DiskView) (all rest : List ScriptSession) (held
   pub split : all ≡ front ++ rest
   pub reported : AreReported entry None 1 front done
   pub leaves : LeavesAfter entry (last_run None done) now
+  pub started : now.starts ≡ starts_of entry (last_run None done)
+  pub counted : IsCounted entry.faults (fault_ends done) now.faults
   pub appended : Appends held held_now (texts_of done)
   pub many : number ≡ length front
   pub fresh : number ≡ 0 → now.reads ≡ entry.reads

@@ -7,7 +7,7 @@ use Rattle.std.specs.Prelude.{ℕ, List, [], ◌++◌, codes, decimal, ⊤}
 use Rattle.disk_trait.specs.declared.area.Area.{Area}
 use Rattle.disk_trait.specs.declared.area.Area.TheVariants.{Zero, One}
 use Rattle.script_runner.specs.declared.status.Status.{Status}
-use Rattle.script_runner.specs.declared.status.Status.TheVariants.{Done, Usage, TooLong, BadScript, ReadFault, WriteFault, DiskFault, Damaged, NoMemory, NotBuilt}
+use Rattle.script_runner.specs.declared.status.Status.TheVariants.{Done, Usage, TooLong, BadScript, ReadFault, WriteFault, DiskFault, Damaged, NoMemory}
 
 abbrev pub IsUnwritten : Status → Type 0
 IsUnwritten Done = ⊥
@@ -19,7 +19,6 @@ IsUnwritten WriteFault = ⊥
 IsUnwritten DiskFault = ⊥
 IsUnwritten (Damaged area place) = ⊥
 IsUnwritten NoMemory = ⊥
-IsUnwritten NotBuilt = ⊥
 
 abbrev pub number_of : Status → ℕ
 number_of Done = 0
@@ -31,7 +30,6 @@ number_of WriteFault = 6
 number_of DiskFault = 7
 number_of (Damaged area place) = 8
 number_of NoMemory = 9
-number_of NotBuilt = 11
 
 abbrev pub number_of_area : Area → ℕ
 number_of_area Zero = 0
@@ -47,4 +45,3 @@ line_of WriteFault = codes "idbrun: write fault"
 line_of DiskFault = codes "idbrun: disk fault"
 line_of (Damaged area place) = codes "idbrun: damaged area " ++ decimal (number_of_area area) ++ codes " at " ++ decimal place
 line_of NoMemory = codes "idbrun: no memory"
-line_of NotBuilt = codes "idbrun: not built"

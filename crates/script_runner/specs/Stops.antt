@@ -1,10 +1,7 @@
 -- What a stop says of what caused it.
 --     stop_of_recovery      why a session wasn't opened
---     stop_of_halt          why a session stopped: a fault of the disk within it isn't built yet
 use Rattle.idb_recovery.specs.declared.error.RecoverError.{RecoverError}
 use Rattle.idb_recovery.specs.declared.error.RecoverError.TheVariants as error
-use Rattle.session_driver.specs.declared.entering.Halt.{Halt}
-use Rattle.session_driver.specs.declared.entering.Halt.TheVariants as halt
 use Rattle.script_runner.specs.declared.stops.Stop.{Stop}
 use Rattle.script_runner.specs.declared.stops.Stop.TheVariants as stop
 
@@ -12,7 +9,3 @@ abbrev pub stop_of_recovery : RecoverError → Stop
 stop_of_recovery error.DiskFault = stop.DiskFault
 stop_of_recovery (error.Damaged area place) = stop.Damaged area place
 stop_of_recovery error.NoMemory = stop.NoMemory
-
-abbrev pub stop_of_halt : Halt → Stop
-stop_of_halt halt.DiskFault = stop.NotBuilt
-stop_of_halt halt.NoMemory = stop.NoMemory

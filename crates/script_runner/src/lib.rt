@@ -11,8 +11,6 @@ mod scripts;
 mod sessions;
 mod status;
 mod stops;
-#[cfg(test)]
-mod tests;
 
 pub use limits::MOST_SCRIPT_BYTES;
 pub use run::run_words;

@@ -9,7 +9,7 @@ ghost use Rattle.log_history.specs.Found.{found};
 ghost use Rattle.script_statements.specs.declared.script.Script.{Script};
 ghost use Rattle.script_runner.specs.Commands.{IsRun, usage_text};
 ghost use Rattle.script_runner.specs.Inputs.{ReadsAs, ReadsTooMuch, due_of};
-ghost use Rattle.script_runner.specs.Sessions.{SessionDone, AreReported, LeavesAfter, last_run, texts_of, EndsBetween, EndsWithin, IsCutOff};
+ghost use Rattle.script_runner.specs.Sessions.{SessionDone, AreReported, starts_of, LeavesAfter, last_run, texts_of, fault_ends, IsCounted, EndsBetween, EndsWithin, IsCutOff};
 ghost use Rattle.script_runner.specs.Statuses.{IsUnwritten};
 ghost use Rattle.script_runner.specs.declared.status.Status.TheVariants as status;
 
@@ -49,8 +49,9 @@ fn usage(alloc: Global) -> Status
 /// `gate` is told of each request before it runs. The report of each session is written to `sink` as it ends, in one piece.
 ///
 /// Refusals come in this order: `Usage`, before anything is read; `ReadFault` or `TooLong`, whichever is met first while reading;
-/// `BadScript`; then for each session `DiskFault` or `Damaged` at its opening, `NotBuilt` where the disk fails within it, and
-/// `WriteFault`. With all of these but the last the reports of the sessions before are written whole. The disk is handed back.
+/// `BadScript`; then for each session `DiskFault` or `Damaged` at its opening, and `WriteFault`. With all of these but the last the
+/// reports of the sessions before are written whole. Where the disk fails within a session that ends by it, and the next one is
+/// opened on what the disk holds then; each such end is counted. The disk is handed back.
 pub fn run_words<R: Threads + Wait + Sync, S: Source, K: Sink, D: Disk + Send, G: Gate + Sync>(
     rt: &R,
     alloc: Global,
@@ -61,14 +62,17 @@ pub fn run_words<R: Threads + Wait + Sync, S: Source, K: Sink, D: Disk + Send, G
     gate: &G,
 ) -> Ended<D>
     // The source was read to its end, and what was read is a script; each of its sessions has a legal report, from the databases
-    // that are found in what reads gave as it was opened; that may be left by the session before it; and the texts of these reports
-    // were appended, and nothing else. What a stop may leave now is what the last session may leave.
+    // that are found in what reads gave as it was opened; that may be left by the session before it, behind which the disk was
+    // started again once; and the texts of these reports were appended, and nothing else. What a stop may leave now is what the last
+    // session may leave, and the disk wasn't started since.
     ensures done { result.status ≡ Status.Done
         → (script : Script) × (done : List SessionDone)
         × ReadsAs (S.left source.old) (S.left source.new) (Ok script)
         × AreReported (D.shows disk) None 1 script.sessions done
         × LeavesAfter (D.shows disk) (last_run None done) (D.shows result.disk)
-        × Appends (K.held sink.old) (K.held sink.new) (texts_of done) }
+        × ((D.shows result.disk).starts ≡ starts_of (D.shows disk) (last_run None done))
+        × Appends (K.held sink.old) (K.held sink.new) (texts_of done)
+        × IsCounted (D.shows disk).faults (fault_ends done) (D.shows result.disk).faults }
 
     // Of the first sessions so many are reported so; a front of the last report was written, and all of those before it.
     ensures write_fault { result.status ≡ Status.WriteFault
@@ -83,10 +87,6 @@ pub fn run_words<R: Threads + Wait + Sync, S: Source, K: Sink, D: Disk + Send, G
     ensures damaged { (area : Area) (place : ℕ) → result.status ≡ status.Damaged area place
         → (script : Script) × ReadsAs (S.left source.old) (S.left source.new) (Ok script)
         × EndsBetween (D.shows disk) (D.shows result.disk) script.sessions
-        (K.held sink.old) (K.held sink.new) }
-    ensures not_built { result.status ≡ Status.NotBuilt
-        → (script : Script) × ReadsAs (S.left source.old) (S.left source.new) (Ok script)
-        × EndsWithin (D.shows disk) (D.shows result.disk) script.sessions
         (K.held sink.old) (K.held sink.new) }
     ensures no_memory { result.status ≡ Status.NoMemory
         → ((sink.new ≡ sink.old) × (result.disk ≡ disk))
@@ -105,8 +105,6 @@ pub fn run_words<R: Threads + Wait + Sync, S: Source, K: Sink, D: Disk + Send, G
     ensures read_cause { result.status ≡ Status.ReadFault → Rose (S.faults source.old) (S.faults source.new) }
     ensures write_cause { result.status ≡ Status.WriteFault → Rose (K.faults sink.old) (K.faults sink.new) }
     ensures disk_cause { result.status ≡ Status.DiskFault
-        → Rose (D.shows disk).faults (D.shows result.disk).faults }
-    ensures session_cause { result.status ≡ Status.NotBuilt
         → Rose (D.shows disk).faults (D.shows result.disk).faults }
     ensures damage { (area : Area) (place : ℕ) → result.status ≡ status.Damaged area place
         → WhereTold (D.shows disk) (λ areas. found areas ≡ Err (area, place)) }
@@ -169,10 +167,6 @@ pub fn run_words<R: Threads + Wait + Sync, S: Source, K: Sink, D: Disk + Send, G
         },
         Err(Stop::Damaged { area, place }) => Ended {
             status: Status::Damaged { area, place },
-            disk,
-        },
-        Err(Stop::NotBuilt) => Ended {
-            status: Status::NotBuilt,
             disk,
         },
         Err(Stop::WriteFault) => Ended {

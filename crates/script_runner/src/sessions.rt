@@ -1,17 +1,17 @@
 // The sessions of a script, one after another on a disk.
-ghost use Rattle.std.specs.Prelude.{◌≡◌, ◌≤◌, ◌+◌, List, true, is_some, OnOk, OnErr, IfOk, IfErr, IsErrOf, None};
+ghost use Rattle.std.specs.Prelude.{◌≡◌, ◌≤◌, ◌+◌, List, true, is_some, if◌then◌else◌, OnOk, OnErr, IfOk, IfErr, IsErrOf, None};
 ghost use Rattle.std.specs.Io.KnownBytes.{Appends};
 ghost use Rattle.edge_traits.specs.Faults.{Rose, HasFaultCause};
 ghost use Rattle.edge_traits.specs.Streams.{AppendsFront};
 ghost use Rattle.disk_trait.specs.Disk.{WhereTold, NoNewImage};
 ghost use Rattle.report_lines.specs.ReportText.{text_of_report};
 ghost use Rattle.report_lines.specs.declared.reports.Report.{Report};
-ghost use Rattle.script_runner.specs.Sessions.{SessionDone, AreReported, LeavesAfter, last_run, texts_of};
+ghost use Rattle.script_runner.specs.Sessions.{SessionDone, AreReported, starts_of, LeavesAfter, last_run, texts_of, fault_ends, IsCounted};
 ghost use Rattle.script_runner.specs.Running.{RanOn, StopsBy, EndsBy};
 ghost use Rattle.script_runner.specs.declared.stops.Stop.{Stop};
 
 use crate::reporting::{NoReport, write_report};
-use crate::stops::{Stop, halted, unopened};
+use crate::stops::{Stop, unopened};
 use disk_trait::{Disk, Failed};
 use edge_traits::{Gate, Sink};
 use idb_base::NoMemory;
@@ -27,6 +27,8 @@ fn restart<D: Disk>(disk: &mut D, is_first: bool) -> Result<(), Failed>
     ensures first { is_first ≡ true → (D.shows disk.new).reads ≡ (D.shows disk.old).reads }
     ensures given { OnOk result (WhereTold (D.shows disk.new) (D.shows disk.old).may_leave) }
     ensures images { NoNewImage (D.shows disk.old) (D.shows disk.new) }
+    ensures started { OnOk result ((D.shows disk.new).starts
+        ≡ (if is_first then (D.shows disk.old).starts else (D.shows disk.old).starts + 1)) }
     ensures told { is_some (D.shows disk.new).reads ≡ is_some (D.shows disk.old).reads }
     ensures cause { HasFaultCause (D.shows disk.old).faults (D.shows disk.new).faults result }
 {
@@ -67,7 +69,7 @@ fn run_on<D: Disk, G: Gate>(
     let (ran, disk) = run_session(alloc, gate, session, number, opened);
     match ran {
         Ok(report) => (Ok(report), disk),
-        Err(halt) => (Err(halted(halt)), disk),
+        Err(NoMemory) => (Err(Stop::NoMemory), disk),
     }
 }
 
@@ -116,7 +118,9 @@ pub(crate) fn run_sessions<K: Sink, D: Disk, G: Gate>(
     ensures done { OnOk result.0 ((done : List SessionDone)
         × AreReported (D.shows disk) None 1 sessions done
         × LeavesAfter (D.shows disk) (last_run None done) (D.shows result.1)
-        × Appends (K.held sink.old) (K.held sink.new) (texts_of done)) }
+        × ((D.shows result.1).starts ≡ starts_of (D.shows disk) (last_run None done))
+        × Appends (K.held sink.old) (K.held sink.new) (texts_of done)
+        × IsCounted (D.shows disk).faults (fault_ends done) (D.shows result.1).faults) }
     ensures stops { IfErr result.0 (λ stop. EndsBy stop (D.shows disk) (D.shows result.1) sessions
         (K.held sink.old) (K.held sink.new)) }
     ensures write_cause { IsErrOf result.0 Stop.WriteFault → Rose (K.faults sink.old) (K.faults sink.new) }

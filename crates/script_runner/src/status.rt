@@ -28,8 +28,6 @@ pub enum Status {
     Damaged { area: Area, place: u64 },
     /// Memory ran out. The reports of the sessions before are written.
     NoMemory,
-    /// The disk failed within a session, which stopped there and has no report. Those before it have theirs.
-    NotBuilt,
 }
 
 impl Status {
@@ -47,7 +45,6 @@ impl Status {
             Status::DiskFault => 7,
             Status::Damaged { area: _, place: _ } => 8,
             Status::NoMemory => 9,
-            Status::NotBuilt => 11,
         }
     }
 
@@ -82,7 +79,6 @@ impl fmt::Display for Status {
                 write!(f, "idbrun: damaged area {area} at {place}")
             }
             Status::NoMemory => write!(f, "idbrun: no memory"),
-            Status::NotBuilt => write!(f, "idbrun: not built"),
         }
     }
 }

@@ -1,10 +1,9 @@
 // Why the program stops before all sessions are reported.
 ghost use Rattle.std.specs.Prelude.{◌≡◌};
-ghost use Rattle.script_runner.specs.Stops.{stop_of_recovery, stop_of_halt};
+ghost use Rattle.script_runner.specs.Stops.{stop_of_recovery};
 
 use disk_trait::Area;
 use idb_recovery::RecoverError;
-use session_driver::Halt;
 
 /// Why the program stops before all sessions are reported.
 #[derive(Clone, Copy, Debug)]
@@ -13,8 +12,6 @@ pub(crate) enum Stop {
     DiskFault,
     /// What it holds is damaged.
     Damaged { area: Area, place: u64 },
-    /// It failed within a session.
-    NotBuilt,
     /// The sink failed.
     WriteFault,
     /// Memory ran out.
@@ -29,15 +26,5 @@ pub(crate) fn unopened(error: RecoverError) -> Stop
         RecoverError::DiskFault => Stop::DiskFault,
         RecoverError::Damaged { area, place } => Stop::Damaged { area, place },
         RecoverError::NoMemory => Stop::NoMemory,
-    }
-}
-
-/// Why a session stopped.
-pub(crate) fn halted(halt: Halt) -> Stop
-    ensures { result ≡ stop_of_halt halt }
-{
-    match halt {
-        Halt::DiskFault => Stop::NotBuilt,
-        Halt::NoMemory => Stop::NoMemory,
     }
 }

@@ -9,8 +9,6 @@ mod interpreting;
 mod limits;
 mod notes;
 mod stating;
-#[cfg(test)]
-mod tests;
 mod worlds;
 
 pub use environments::{At, Env};

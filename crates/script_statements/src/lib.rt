@@ -6,8 +6,6 @@
 
 mod script;
 mod statement;
-#[cfg(test)]
-mod tests;
 
 pub use script::{Block, Blocks, Client, Clients, Script, ScriptSession, ScriptSessions};
 pub use statement::{BlockPlace, RangeExpr, Stmt, Stmts};

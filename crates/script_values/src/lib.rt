@@ -7,8 +7,6 @@
 mod evaluating;
 mod forming;
 mod limits;
-#[cfg(test)]
-mod tests;
 
 pub use evaluating::value_of_expr;
 pub use limits::{GREATEST_EXPR_DEPTH, GREATEST_EXPR_SIZE};

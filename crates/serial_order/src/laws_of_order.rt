@@ -16,8 +16,8 @@ ghost use Rattle.serial_order.specs.NumberOrder.{IsInOrder, by_number, Rises, co
 
 use item_changes::scope_laws;
 use key_paths::conversion_laws;
+use machine_laws::leaving_laws;
 use request_lists::Handler;
-use store_requests::leaving_laws;
 
 /// The laws of the order. Where transactions that conflict finished in the order of their numbers, all of them have the same
 /// runs one by one in the order in which they finished and in that of their numbers, and the items at the end are the same: those

@@ -1,5 +1,5 @@
 -- A session's book after each answer of the book below it: what it keeps, and what is found of a moment within the call.
-use Rattle.std.proofs.Common.{◌≡◌, ◌⊎◌, inl, inr, ℕ, ◌≤◌, true, List, [], ◌∷◌, ◌++◌, length, Option, Some, None, refl, sym, ap, subst, ◌∙◌}
+use Rattle.std.proofs.Common.{◌≡◌, ◌⊎◌, inl, inr, ℕ, ◌≤◌, true, false, List, [], ◌∷◌, ◌++◌, length, Option, Some, None, refl, sym, ap, subst, ◌∙◌}
 use Rattle.disk_trait.specs.Areas.{Areas}
 use Rattle.disk_trait.specs.Disk.{DiskView, EachImage, LeavesOnly}
 use Rattle.idb_calls.specs.declared.traces.TxTrace.{TxTrace}
@@ -8,7 +8,7 @@ use Rattle.log_history.specs.Batching.{Commit, commit_of, batch_payload, sealed}
 use Rattle.log_history.specs.Kept.{End, Dropped, Flushed, FailedFlush, with_doubt, MayKeep}
 use Rattle.tx_book.specs.Answers.{FinishIs, FlushIs}
 use Rattle.tx_book.specs.Books.{BookState, IsFoundOr, IsFoundSo}
-use Rattle.tx_book.specs.Entries.{batch_with}
+use Rattle.tx_book.specs.Entries.{has_committed, batch_with}
 use Rattle.tx_book.specs.Follows.{FollowsCommits, FollowsFinish, FollowsFlush, IsFoundKept}
 use Rattle.tx_book.specs.declared.answers.Finish.{Finish}
 use Rattle.tx_book.specs.declared.answers.Finish.TheVariants as answer
@@ -89,6 +89,29 @@ module _ {D : Type 0} (shows : D → DiskView) (opening : Items) (commits : List
   moments_of_call finds within only_now images flush.Nothing new is moments = still_at_flush shows was old.committed keeps runs new.log.disk (ap (λ (b : BookState D). b.log.disk) is.2) only_now finds images
   moments_of_call finds within only_now images (flush.Faulted seen) new is moments = still_at_flush shows was old.committed keeps runs new.log.disk (ap (λ (b : BookState D). b.log.disk) is.1) only_now finds images
   moments_of_call finds within only_now images flush.NoMemory new is moments = still_at_flush shows was old.committed keeps runs new.log.disk (ap (λ (b : BookState D). b.log.disk) is) only_now finds images
+
+-- one that aborted is noted
+no : {Y : Type 0} → true ≡ false → Y
+no e = cc
+
+log_and_commits : {D : Type 0} (shows : D → DiskView) (t : TxTrace) (old new : BookState D) (r : Finish) → FinishIs shows t old r new → has_committed t.outcome ≡ false → (new.log ≡ old.log) × (new.committed ≡ old.committed)
+log_and_commits shows t old new answer.Sealed is out = no (sym is.0.commit.committed ∙ out)
+log_and_commits shows t old new answer.Waiting is out = no (sym is.0.commit.committed ∙ out)
+log_and_commits shows t old new answer.Noted is out = (is.1, is.2.committed)
+log_and_commits shows t old new answer.DiskFault is out = no (sym is.0.commit.committed ∙ out)
+log_and_commits shows t old new (answer.Faulted seen) is out = no (sym is.0.committed ∙ out)
+log_and_commits shows t old new answer.NoMemory is out = (ap (λ (b : BookState _). b.log) is, ap (λ (b : BookState _). b.committed) is)
+
+pub keeps_noted : {D : Type 0} (shows : D → DiskView) (opening : Items) (commits : List Commit) (end : End) (finished later : List ℕ) (t : TxTrace) (old new : BookState D) (r : Finish)
+    → IsSessionBook shows (record { opening = opening; commits = commits; end = end; finished = finished; log = old.log }) old.committed → FinishIs shows t old r new → has_committed t.outcome ≡ false
+    → IsSessionBook shows (record { opening = opening; commits = commits; end = end; finished = later; log = new.log }) new.committed
+keeps_noted shows opening commits end finished later t old new r keeps is out =
+    let same = log_and_commits shows t old new r is out in
+    record {
+      follows = subst (λ l. FollowsCommits shows opening commits end l) (sym same.0) keeps.follows;
+      applies = keeps.applies;
+      numbers = same.1 ∙ keeps.numbers;
+    }
 
 -- the same of the book as it is seen
 module _ {D : Type 0} (shows : D → DiskView) (opening : Items) (commits : List Commit) (end : End) (finished : List ℕ) (old : BookState D) (now : SessionBookState D)

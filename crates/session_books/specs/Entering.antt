@@ -3,7 +3,7 @@
 --     commits_with          the commits with this one, where it is one
 --     end_within            the end that a stop within the call leaves: as after a fault, where a commit is entered
 --     ends_its_batch        with this commit behind those its batch ends
---     with_entered, doubted     the book with a transaction;  with one that met a fault, whose commit is in doubt
+--     with_entered, with_noted, doubted      the book with a transaction;  with one that is no commit;  with one that met a fault, whose commit is in doubt
 --     flushed, flush_failed        the book that was flushed;  whose flush met a fault
 --     IsButLog              it is so, with a log of its own
 --     FailsAtCommit, FailsAtFlush  the disk failed as the batch of a commit was written;  as that of those that waited was
@@ -30,6 +30,9 @@ ends_its_batch commits c = ends_batch c ((batched commits).waiting ++ c ∷ [])
 
 abbrev pub with_entered : {D : Type 0} → TxTrace → SessionBookState D → SessionBookState D
 with_entered trace book = record book { commits = commits_with book.commits trace; finished = book.finished ++ trace.number ∷ [] }
+
+abbrev pub with_noted : {D : Type 0} → TxTrace → SessionBookState D → SessionBookState D
+with_noted trace book = record book { finished = book.finished ++ trace.number ∷ [] }
 
 -- it finished, and is none of the commits
 abbrev pub doubted : {D : Type 0} → TxTrace → SessionBookState D → SessionBookState D

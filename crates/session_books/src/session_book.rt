@@ -4,6 +4,7 @@ use crate::error::EnterError;
 use crate::notes::{CommitNote, Ended, is_open};
 use clone_values::Numbers;
 use gate_log::Disk;
+use idb_base::NoMemory;
 use idb_calls::TxTrace;
 use idb_databases::Databases;
 use idb_recovery::Opened;
@@ -55,16 +56,16 @@ impl<D: Disk, T: Tables> Model for SessionBook<D, T> {
 }
 
 impl<D: Disk, T: Tables> SessionBook<D, T> {
-    ghost use Rattle.std.specs.Prelude.{◌≡◌, ◌≤◌, ◌++◌, ◌∷◌, [], length, true, false, OnOk, IsErrOf};
+    ghost use Rattle.std.specs.Prelude.{◌≡◌, ◌≤◌, ◌++◌, ◌∷◌, [], length, true, false, OnOk, OnErr, IsErrOf};
     ghost use Rattle.disk_trait.specs.Disk.{EachImage, LeavesOnly};
     ghost use Rattle.gate_log.specs.Log.{disk_of, live_of, failed_at};
     ghost use Rattle.log_history.specs.Batching.{commit_of};
     ghost use Rattle.log_history.specs.Kept.{Dropped, FailedFlush, with_doubt};
     ghost use Rattle.tx_book.specs.Books.{fresh};
-    ghost use Rattle.tx_book.specs.Entries.{CanBeLogged};
+    ghost use Rattle.tx_book.specs.Entries.{CanBeLogged, has_committed};
     ghost use Rattle.tx_book.specs.Follows.{IsFoundKept};
     ghost use Rattle.session_books.specs.States.{opened_on, takes_more, numbers_of, commits_apply, HoldsItems};
-    ghost use Rattle.session_books.specs.Entering.{is_commit, end_within, with_entered, flushed, IsButLog, FailsAtCommit, FailsAtFlush};
+    ghost use Rattle.session_books.specs.Entering.{is_commit, end_within, with_entered, with_noted, flushed, IsButLog, FailsAtCommit, FailsAtFlush};
 
     /// A book over a log that was just opened, and its databases. It takes no memory.
     pub fn new(alloc: Global, opened: Opened<D, T>) -> (SessionBook<D, T>, Databases<T>)
@@ -117,6 +118,21 @@ impl<D: Disk, T: Tables> SessionBook<D, T> {
             }
             Finish::Faulted { .. } => unreachable!(),
             Finish::NoMemory => Err(EnterError::NoMemory),
+        }
+    }
+
+    /// Notes that a transaction finished which aborted, whether or not the book takes more.
+    pub fn note(&mut self, trace: &TxTrace) -> Result<(), NoMemory>
+        requires { has_committed trace.now.outcome ≡ false }
+        ensures noted { OnOk result (self.new ≡ with_noted trace.now self.old) }
+        ensures unchanged { OnErr result (self.new ≡ self.old) }
+    {
+        match self.book.finish(trace) {
+            Finish::Noted => Ok(()),
+            Finish::NoMemory => Err(NoMemory),
+            Finish::Sealed | Finish::Waiting | Finish::DiskFault | Finish::Faulted { .. } => {
+                unreachable!()
+            }
         }
     }
 

@@ -41,7 +41,7 @@ get_all (e ∷ es) m q =
     either true x o r = refl
     either false x o r = refl
 
-get_with : (names : List Name) (others m : Stores) (q : Name) → finite.get (with_stores_of names others m) q ≡ option_or (cond (is_among names q) (finite.get others q) None) (finite.get m q)
+pub get_with : (names : List Name) (others m : Stores) (q : Name) → finite.get (with_stores_of names others m) q ≡ option_or (cond (is_among names q) (finite.get others q) None) (finite.get m q)
 get_with names others m q =
     get_all (finite.entries (finite.retain_keys others (is_among names))) m q
     ∙ ap (λ o. option_or o (finite.get m q)) (sym (finite.get-entries (finite.retain_keys others (is_among names)) q) ∙ get_kept others (is_among names) q)

@@ -4,13 +4,14 @@
 --     put_if                the stores, with one under this name
 --     with_stores_of        the stores, with those that others have under these names
 --     joined_by, with_part  the database with the part that comes back;  and all databases
-use Rattle.std.specs.Prelude.{Bool, not, List, [], ◌∷◌, Option, Some, None, option_map}
+--     AreSoundDatabases              each store of each database is as the standard asks, and stands under its own name
+use Rattle.std.specs.Prelude.{◌≡◌, Bool, not, List, [], ◌∷◌, Option, Some, None, option_map}
 use Rattle.std.specs.FinMap as finite
 use Rattle.idb_keys.specs.declared.names.Mode.{Mode}
 use Rattle.object_stores.specs.Store.{Store}
 use Rattle.item_changes.specs.Items.{Name, Database, Items, changed_at, stores_in}
 use Rattle.item_changes.specs.Scopes.{Access, Reads, Writes, Whole, Scope, access_of, is_among}
-use Rattle.idb_databases.specs.Stores.{Stores}
+use Rattle.idb_databases.specs.Stores.{Stores, AreStores}
 
 abbrev pub scope_of : Mode → Name → List Name → Scope
 scope_of mode database names = record { database = database; access = access_of mode names }
@@ -56,3 +57,7 @@ joined_by Whole part there = part
 
 abbrev pub with_part : Scope → Items → Option Database → Items
 with_part scope items part = changed_at items scope.database (joined_by scope.access part)
+
+-- ---- soundness
+abbrev pub AreSoundDatabases : Items → Type 0
+AreSoundDatabases items = (name : Name) (d : Database) → finite.get items name ≡ Some d → AreStores d.stores

@@ -1,11 +1,9 @@
 // The databases of a session.
-ghost use Rattle.std.specs.Prelude.{◌≡◌, Some, None, option_map, IfOk, OnOk};
+ghost use Rattle.std.specs.Prelude.{◌≡◌, None, option_map, IfOk, OnOk};
 ghost use Rattle.std.specs.FinMap as finite;
-ghost use Rattle.item_changes.specs.Items.{Name, Database};
 ghost use Rattle.item_changes.specs.Scopes.{part_of};
-ghost use Rattle.idb_databases.specs.Stores.{AreStores};
 ghost use Rattle.live_stores.specs.Live.{database_at};
-ghost use Rattle.session_databases.specs.Parts.{scope_of, without_part, with_part};
+ghost use Rattle.session_databases.specs.Parts.{scope_of, without_part, with_part, AreSoundDatabases};
 
 use crate::entries::{
     SessionDatabase, give_some, give_whole, look_at_stores, take_some, take_whole, version_in,
@@ -71,7 +69,7 @@ impl<T: Tables> SessionDatabases<T> {
 
     /// Each store is as the standard asks, and stands under its own name: a look at each database tells. It takes no memory.
     pub fn stores_are_sound(&self)
-        ensures { (name : Name) (d : Database) → finite.get self.now name ≡ Some d → AreStores d.stores }
+        ensures { AreSoundDatabases self.now }
     {
         look_at_stores(&self.items);
     }

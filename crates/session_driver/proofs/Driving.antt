@@ -21,6 +21,7 @@ use Rattle.idb_desk.specs.Refusals.{has_some, is_allowed}
 use Rattle.idb_desk.specs.declared.steps.DeskStep.TheVariants as step
 use Rattle.idb_desk.specs.Steps.{DeskRun, desk_run, IsDeskRun}
 use Rattle.item_changes.specs.Items.{Items}
+use Rattle.log_history.specs.Kept.{End}
 use Rattle.script_statements.specs.declared.script.Client.{Client}
 use Rattle.script_statements.specs.declared.script.ScriptSession.{ScriptSession}
 use Rattle.script_runs.specs.declared.notes.Note.{Note}
@@ -31,23 +32,27 @@ use Rattle.desk_facts.specs.Databases.{AreOpenable}
 use Rattle.client_ties.specs.Unfinished.{least_of}
 use Rattle.client_ties.proofs.Laws.{IsSound, least_unfinished, first_drawn}
 use Rattle.legal_sessions.specs.Histories.{ShowsItems}
-use Rattle.legal_sessions.specs.Legal.{has_of, IsLegalReport}
+use Rattle.legal_sessions.specs.Legal.{has_of, EndsSo, report_end, IsLegalReport}
 use Rattle.report_lines.specs.declared.reports.Has.{Has}
 use Rattle.report_lines.specs.declared.reports.Report.{Report}
 use Rattle.session_states.specs.Sessions.{SeatNow, SessionNow, fresh_seats, fresh_session, commit_numbers, IsAtEnd, report_now}
 use Rattle.session_states.specs.Telling.{RunningTx}
 use Rattle.session_states.specs.UnderWay.{IsUnderWay}
 use Rattle.session_states.specs.Moves.{HasReady}
-use Rattle.session_facts.specs.Fitting.{AreFew, FitsDesk, IsFitting}
-use Rattle.session_facts.specs.Showing.{IsShown}
-use Rattle.task_statements.specs.Offices.{OfficeState}
+use Rattle.office_moves.specs.Fitting.{AreFew, FitsDesk, IsFitting}
+use Rattle.office_moves.specs.Showing.{IsShown}
+use Rattle.office_moves.specs.Offices.{OfficeState}
+use Rattle.office_moves.specs.Measures.{left_to, room_left}
+use Rattle.office_moves.specs.Moving.{IsMoveOf}
+use Rattle.office_moves.specs.Running.{IsDue}
+use Rattle.office_moves.specs.Scenes.{DoneNow, scene_of, IsSceneAt, IsOpening, IsDriven, LeadsTo, StandsOn}
 use Rattle.session_driver.specs.declared.choosing.NextMove.TheVariants as move
 use Rattle.session_driver.specs.declared.seats.Seat.{Seat}
-use Rattle.session_driver.specs.Choosing.{is_ready, move_of, next_move, IsDue, IsMoveOf, IsChosen}
-use Rattle.session_driver.specs.Measures.{beyond_memory, left_to, seats_left, session_left}
+use Rattle.session_driver.specs.Choosing.{is_ready, move_of, next_move, IsChosen}
+use Rattle.session_driver.specs.Measures.{seats_left, session_left}
 use Rattle.session_driver.specs.Reporting.{lines_seen, report_told}
-use Rattle.session_driver.specs.Scenes.{DoneNow, scene_of, IsSceneAt, IsOpening, IsDriven, LeadsTo, StandsOn}
 use Rattle.session_driver.specs.Seats.{seat_seen, script_of_seat, session_seen, IsDriving}
+use Rattle.session_driver.specs.Ending.{RanTo}
 use Rattle.session_driver.proofs.Lessening.{seat_less}
 use Rattle.session_driver.proofs.Places.{put_back_is, no_place, place_found}
 
@@ -82,6 +87,7 @@ scene_at session r seats done items place s drives at = record {
   run = refl;
   finish = refl;
   commits = refl;
+  doubts = refl;
   items = refl;
 }
 
@@ -104,7 +110,7 @@ client_moved session r seats out done last items left place s new after drives a
     let now : SessionNow = session_seen r seats done items in
     let seats_are : slice_set (map seat_seen seats) place (seat_seen (seated_with s new after)) ≡ map seat_seen out = sym (map-set seat_seen seats place (seated_with s new after)) ∙ ap (map seat_seen) (sym is) in
     record {
-      driven = subst (λ (ss : List SeatNow). IsDriven session last.opening (record { run = new.run; seats = ss; finish = last.finish; commits = last.commits; items = left }) None) seats_are
+      driven = subst (λ (ss : List SeatNow). IsDriven session last.opening (record { run = new.run; seats = ss; finish = last.finish; commits = last.commits; doubts = last.doubts; items = left }) None) seats_are
           (leads.leads session now place (scene_at session r seats done items place s drives at) drives.driven);
       scripts = ap (map script_of_seat) is ∙ map-set_same script_of_seat seats place (seated_with s new after) s (ap script_of_seat (sym (get_or_from_slice_get seats place s s at))) ∙ drives.scripts;
     }
@@ -163,7 +169,7 @@ chosen_there law session r seats done items number t drives next go drawn =
       idle = has_none s.0.client.tasks (neither (has_some s.0.client.tasks) (has_some (events_of (desk_run r).queues.mails s.0.client.number)) free).0;
       found = ap (λ (x : SeatNow). tx_at x.client number) s.1.1 ∙ h.found;
       waits = h.waits;
-      allowed = ap (λ (x : SeatNow). is_allowed (desk_run r) (step.Starts x.client.number number)) s.1.1 ∙ h.allowed;
+      allowed = λ calm. ap (λ (x : SeatNow). is_allowed (desk_run r) (step.Starts x.client.number number)) s.1.1 ∙ h.allowed calm;
       least = n.1;
     } in
     (at_least h.place t.who.client h.client, record { seat = s.0; seat_at = ap (slice_get seats) (sym place) ∙ s.1.0; due = due })
@@ -192,9 +198,9 @@ abbrev FreshShowsLaw : Type 0
 FreshShowsLaw = (session : ScriptSession) (schemas : List SchemaData) (opening : Items) → AreOpenable schemas → ShowsItems schemas opening → IsShown (fresh_session session.clients schemas opening)
 
 pub begins_so : FreshLaw → FreshFitsLaw → FreshShowsLaw → (session : ScriptSession) (r : DeskRun) (seats : List Seat) (done : DoneNow) (items : Items) (schemas : List SchemaData)
-    → map seat_seen seats ≡ fresh_seats 1 session.clients → map script_of_seat seats ≡ session.clients → r ≡ record { opening = schemas; order = [] } → done.finish ≡ [] → done.commits ≡ [] → items ≡ done.opening
+    → map seat_seen seats ≡ fresh_seats 1 session.clients → map script_of_seat seats ≡ session.clients → r ≡ record { opening = schemas; order = [] } → done.finish ≡ [] → done.commits ≡ [] → done.doubts ≡ [] → items ≡ done.opening
     → ShowsItems schemas done.opening → AreOpenable schemas → AreFew schemas → IsOpening done.opening → IsDriving session r seats done items
-begins_so fresh fits shows session r seats done items schemas seats_are scripts run finish commits same_items shown openable few opened =
+begins_so fresh fits shows session r seats done items schemas seats_are scripts run finish commits doubts same_items shown openable few opened =
     let same : fresh_session session.clients schemas done.opening ≡ session_seen r seats done items = cc in
     let driven : IsDriven session done.opening (fresh_session session.clients schemas done.opening) None = record {
       under_way = fresh session schemas done.opening shown;
@@ -254,30 +260,30 @@ module _ (seats out : List Seat) (place : ℕ) (s : Seat) (new : OfficeState) (a
       (subst (λ (o : OfficeState). LeadsTo None None (scene_of o s.notes done items) (scene_of new after last left)) office_is leads) put_so)
 
   pub less_left : (done last : DoneNow) (r : DeskRun) (office : OfficeState) → office ≡ office_at s r
-      → left_to new.client after + (beyond_memory - length last.finish) < left_to office.client s.notes + (beyond_memory - length done.finish) → session_left out last.finish < session_left seats done.finish
+      → left_to new.client after + room_left last.finish < left_to office.client s.notes + room_left done.finish → session_left out last.finish < session_left seats done.finish
   less_left done last r office office_is less =
-      subst (λ (ss : List Seat). seats_left ss + (beyond_memory - length last.finish) < seats_left seats + (beyond_memory - length done.finish)) (sym put_so)
-      (seat_less seats place s (seated_with s new after) (beyond_memory - length done.finish) (beyond_memory - length last.finish) at
-      (subst (λ (o : OfficeState). left_to new.client after + (beyond_memory - length last.finish) < left_to o.client s.notes + (beyond_memory - length done.finish)) office_is less))
+      subst (λ (ss : List Seat). seats_left ss + room_left last.finish < seats_left seats + room_left done.finish) (sym put_so)
+      (seat_less seats place s (seated_with s new after) (room_left done.finish) (room_left last.finish) at
+      (subst (λ (o : OfficeState). left_to new.client after + room_left last.finish < left_to o.client s.notes + room_left done.finish) office_is less))
 
 -- ---- the report
 lines_same : (seats : List Seat) → map lines_seen seats ≡ map (λ (s : SeatNow). written_from 0 s.notes) (map seat_seen seats)
 lines_same [] = refl
 lines_same (s ∷ seats) = ap (λ lines. written_from 0 s.notes ∷ lines) (lines_same seats)
 
-pub tells_so : (session : ScriptSession) (number : ℕ) (r : DeskRun) (seats : List Seat) (done : DoneNow) (items : Items) (lines : List Has) (drop_end : Bool) → drop_end ≡ session.drop_end → lines ≡ map has_of (finite.entries done.opening)
-    → report_now session number done.opening (session_seen r seats done items) ≡ report_told r seats lines done.finish (commit_numbers done.commits) number drop_end
-tells_so session number r seats done items opened drop_end is opening =
+pub tells_so : (number : ℕ) (r : DeskRun) (seats : List Seat) (done : DoneNow) (items : Items) (lines : List Has) (log_end : End) → lines ≡ map has_of (finite.entries done.opening)
+    → report_now number done.opening (session_seen r seats done items) log_end ≡ report_told r seats lines done.finish (commit_numbers done.commits) number (report_end log_end)
+tells_so number r seats done items opened log_end opening =
     let lines = lines_same seats in
     cc
 
 abbrev pub LegalLaw : Type 0
-LegalLaw = (session : ScriptSession) (number : ℕ) (opening : Items) (now : SessionNow) (running : Option RunningTx) → IsUnderWay session opening now running → IsAtEnd now
-    → IsLegalReport session number opening (report_now session number opening now) now.commits now.items
+LegalLaw = (session : ScriptSession) (number : ℕ) (opening : Items) (now : SessionNow) (running : Option RunningTx) (log_end : End) → IsUnderWay session opening now running → IsAtEnd now
+    → EndsSo session.drop_end now.doubts log_end → IsLegalReport session number opening (report_now number opening now log_end) now.commits log_end now.items
 
-pub session_legal : LegalLaw → (session : ScriptSession) (number : ℕ) (r : DeskRun) (seats : List Seat) (done : DoneNow) (items : Items) (lines : List Has) (drop_end : Bool) (report : Report) → IsDriving session r seats done items → IsAtEnd (session_seen r seats done items)
-    → drop_end ≡ session.drop_end → lines ≡ map has_of (finite.entries done.opening) → report ≡ report_told r seats lines done.finish (commit_numbers done.commits) number drop_end
-    → IsLegalReport session number done.opening report done.commits items
-session_legal law session number r seats done items lines drop_end report drives at_end end_is lines_are report_is =
-    subst (λ (told : Report). IsLegalReport session number done.opening told done.commits items) (tells_so session number r seats done items lines drop_end end_is lines_are ∙ sym report_is)
-    (law session number done.opening (session_seen r seats done items) None drives.driven.under_way at_end)
+pub session_legal : LegalLaw → (session : ScriptSession) (number : ℕ) (r : DeskRun) (seats : List Seat) (done : DoneNow) (items : Items) (lines : List Has) (log_end : End) (report : Report) → RanTo session r seats done items log_end
+    → lines ≡ map has_of (finite.entries done.opening) → report ≡ report_told r seats lines done.finish (commit_numbers done.commits) number (report_end log_end)
+    → IsLegalReport session number done.opening report done.commits log_end items
+session_legal law session number r seats done items lines log_end report ran lines_are report_is =
+    subst (λ (told : Report). IsLegalReport session number done.opening told done.commits log_end items) (tells_so number r seats done items lines log_end lines_are ∙ sym report_is)
+    (law session number done.opening (session_seen r seats done items) None log_end ran.driving.driven.under_way ran.at_end ran.ends)

@@ -1,11 +1,5 @@
 pub mod Places
 pub mod Listing
-pub mod Logging
-pub mod Laws
 pub mod Lessening
-pub mod Leading
-pub mod Standing
-pub mod Turning
-pub mod Served
 pub mod Driving
-pub mod Ending
+pub mod Ends

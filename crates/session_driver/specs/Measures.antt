@@ -1,27 +1,13 @@
 -- What is left to do: by it each loop of a driver goes down.
---     beyond_memory         no list in memory has so many entries
---     tasks_left            the tasks that a client has, and the posts that it may still make
---     left_to               the same, with the room for its notes: each event notes a line
---     seats_left            of all clients
+--     seats_left            what is left to all clients
 --     session_left          the same, with the room for the transactions that finish
-use Rattle.std.specs.Prelude.{ℕ, ◌+◌, ◌-◌, ◌^◌, List, [], ◌∷◌, length}
-use Rattle.script_runs.specs.declared.notes.Note.{Note}
-use Rattle.client_machine.specs.ClientStates.{ClientState}
-use Rattle.client_machine.specs.declared.limits.TheConstants.{GREATEST_POST_COUNT}
+use Rattle.std.specs.Prelude.{ℕ, ◌+◌, List, [], ◌∷◌}
+use Rattle.office_moves.specs.Measures.{left_to, room_left}
 use Rattle.session_driver.specs.declared.seats.Seat.{Seat}
-
-abbrev pub beyond_memory : ℕ
-beyond_memory = 2 ^ 64
-
-abbrev pub tasks_left : ClientState → ℕ
-tasks_left c = length c.tasks + (GREATEST_POST_COUNT - c.posts)
-
-abbrev pub left_to : ClientState → List Note → ℕ
-left_to c notes = tasks_left c + (beyond_memory - length notes)
 
 abbrev pub seats_left : List Seat → ℕ
 seats_left [] = 0
 seats_left (s ∷ ss) = left_to s.client s.notes + seats_left ss
 
 abbrev pub session_left : List Seat → List ℕ → ℕ
-session_left seats finish = seats_left seats + (beyond_memory - length finish)
+session_left seats finish = seats_left seats + room_left finish

@@ -10,7 +10,7 @@ use Rattle.script_statements.specs.declared.script.Client.{Client}
 use Rattle.script_statements.specs.declared.script.ScriptSession.{ScriptSession}
 use Rattle.session_states.specs.Sessions.{SeatNow, SessionNow}
 use Rattle.session_driver.specs.declared.seats.Seat.{Seat}
-use Rattle.session_driver.specs.Scenes.{DoneNow, IsDriven}
+use Rattle.office_moves.specs.Scenes.{DoneNow, IsDriven}
 
 abbrev pub seat_seen : Seat → SeatNow
 seat_seen s = record { client = s.client; notes = s.notes }
@@ -19,7 +19,7 @@ abbrev pub script_of_seat : Seat → Client
 script_of_seat s = arc_value s.script
 
 abbrev pub session_seen : DeskRun → List Seat → DoneNow → Items → SessionNow
-session_seen r seats done items = record { run = r; seats = map seat_seen seats; finish = done.finish; commits = done.commits; items = items }
+session_seen r seats done items = record { run = r; seats = map seat_seen seats; finish = done.finish; commits = done.commits; doubts = done.doubts; items = items }
 
 pub record IsDriving (session : ScriptSession) (r : DeskRun) (seats : List Seat) (done : DoneNow) (items : Items) : Type 0 where
   pub driven : IsDriven session done.opening (session_seen r seats done items) None

@@ -1,31 +1,30 @@
 // The driver.
-ghost use Rattle.std.specs.Prelude.{◌≡◌, ◌<◌, ◌≤◌, ◌+◌, ◌-◌, ℕ, true, false, [], length, map, Some, None, IfOk, OnOk, OnErr, IsErrOf, is_some};
+ghost use Rattle.std.specs.Prelude.{◌≡◌, ◌<◌, ◌≤◌, true, false, [], List, map, None, Some, IfOk, OnOk, OnErr, is_some};
 ghost use Rattle.std.specs.FinMap as finite;
 ghost use Rattle.item_changes.specs.Items.{Items};
+ghost use Rattle.idb_databases.specs.Items.{is_within_limits};
 ghost use Rattle.idb_desk.specs.Steps.{desk_run};
 ghost use Rattle.scope_desk.specs.Starts.{may_start};
 ghost use Rattle.scope_desk.specs.declared.unfinished.MayStart.TheVariants.{Go};
 ghost use Rattle.edge_traits.specs.Faults.{Rose};
-ghost use Rattle.log_history.specs.Kept.{Dropped};
-ghost use Rattle.legal_sessions.specs.Legal.{has_of};
-ghost use Rattle.session_states.specs.Sessions.{IsAtEnd};
-ghost use Rattle.session_driver.specs.Choosing.{next_move, IsMoveOf, IsChosen};
-ghost use Rattle.session_driver.specs.Measures.{beyond_memory, left_to, session_left};
-ghost use Rattle.session_driver.specs.Scenes.{DoneNow, done_of_book, scene_of, LeadsTo, StandsOn};
-ghost use Rattle.session_driver.specs.declared.choosing.NextMove.TheVariants as move;
-ghost use Rattle.idb_databases.specs.Items.{is_within_limits};
 ghost use Rattle.gate_log.specs.Log.{disk_of, failed_at};
+ghost use Rattle.log_history.specs.Kept.{Dropped};
+ghost use Rattle.report_lines.specs.declared.reports.ReportEnd.TheVariants as end;
+ghost use Rattle.legal_sessions.specs.Legal.{has_of, report_end};
+ghost use Rattle.session_states.specs.Sessions.{IsAtEnd};
 ghost use Rattle.session_books.specs.States.{HoldsItems};
-ghost use Rattle.session_driver.specs.Ending.{BeginsOn, own_log_end, ReportsOn, StopsOn};
+ghost use Rattle.office_moves.specs.Running.{BookGoesOn};
+ghost use Rattle.office_moves.specs.Scenes.{DoneNow, done_of_book, is_open_end};
+ghost use Rattle.session_driver.specs.Choosing.{next_move, IsChosen};
+ghost use Rattle.session_driver.specs.Measures.{session_left};
+ghost use Rattle.session_driver.specs.declared.choosing.NextMove.TheVariants as move;
+ghost use Rattle.session_driver.specs.Ending.{BeginsOn, RanTo, ReportsOn, StopsOn};
 ghost use Rattle.session_driver.specs.Seats.{session_seen, IsDriving};
 
 use crate::choosing::{NextMove, next_move};
-use crate::entering::{Halt, end_log};
+use crate::ending::end_log;
 use crate::reporting::report_of;
-use crate::running::run_tx;
 use crate::seats::{Seat, put_back, seats_of, shared};
-use crate::serving::serve;
-use client_tasks::Office;
 use disk_trait::Disk;
 use edge_traits::Gate;
 use idb_base::NoMemory;
@@ -33,54 +32,23 @@ use idb_databases::Databases;
 use idb_desk::{Desk, desk_laws};
 use idb_recovery::Opened;
 use index_tables::Tables;
-use report_lines::{Opening, Report};
-use script_runs::Notes;
+use office_moves::{Office, fitting_laws, make_move, showing_laws};
+use report_lines::{Opening, Report, ReportEnd};
 use script_statements::ScriptSession;
 use session_books::SessionBook;
 use session_databases::SessionDatabases;
-use session_facts::{fitting_laws, showing_laws};
 use session_openings::{SessionOpening, open_databases};
 use session_states::under_way_laws;
 use std::alloc::Global;
 use std::snapshot::Snapshot;
 
-/// In its office a client runs the transaction of this number, or where none is named is served.
-fn move_in<T: Tables, D: Disk, G: Gate>(
-    alloc: Global,
-    gate: &G,
-    office: &mut Office,
-    number: Option<u64>,
-    notes: &mut Notes,
-    databases: &mut SessionDatabases<T>,
-    book: &mut SessionBook<D, T>,
-) -> Result<(), Halt>
-    requires due { IsMoveOf office.old.run office.old.client number }
-    requires on { StandsOn None (scene_of office.old notes.old (done_of_book book.old) databases.old) }
-    requires runs { book.old.end ≡ Dropped }
-    ensures leads { OnOk result (LeadsTo None None
-        (scene_of office.old notes.old (done_of_book book.old) databases.old)
-        (scene_of office.new notes.new (done_of_book book.new) databases.new)) }
-    ensures less { OnOk result
-        (left_to office.new.client notes.new + (beyond_memory - length book.new.finished)
-        < left_to office.old.client notes.old + (beyond_memory - length book.old.finished)) }
-    ensures runs { OnOk result (book.new.end ≡ Dropped) }
-
-    ensures opening { book.new.opening ≡ book.old.opening }
-    ensures disk_fault { IsErrOf result Halt.DiskFault
-        → Rose (D.shows book.old.log.disk).faults (D.shows book.new.log.disk).faults }
-    ensures count { (D.shows book.old.log.disk).faults ≤ (D.shows book.new.log.disk).faults }
-    ensures told { is_some (D.shows book.new.log.disk).reads ≡ is_some (D.shows book.old.log.disk).reads }
-{
-    match number {
-        Some(number) => {
-            run_tx(alloc, gate, office, number, notes, databases, book)?;
-            Ok(())
-        }
-        None => {
-            serve(alloc, office, notes)?;
-            Ok(())
-        }
-    }
+/// What is reported of a session at its end, but for the numbers of its transactions.
+#[derive(Drop)]
+struct Ran {
+    desk: Desk,
+    seats: Vec<Seat>,
+    opening: Opening,
+    end: ReportEnd,
 }
 
 /// The client of this place makes a move.
@@ -94,21 +62,16 @@ fn move_client<T: Tables, D: Disk, G: Gate>(
     seats: &mut Vec<Seat>,
     databases: &mut SessionDatabases<T>,
     book: &mut SessionBook<D, T>,
-) -> Result<Desk, Halt>
+) -> Result<Desk, NoMemory>
     requires driving { IsDriving of.now.value desk seats.old.items (done_of_book book.old) databases.old }
     requires chosen { IsChosen desk seats.old.items place number }
-    requires runs { book.old.end ≡ Dropped }
+    requires open { is_open_end book.old.end ≡ true }
     ensures driving { IfOk result (λ last.
         IsDriving of.now.value last seats.new.items (done_of_book book.new) databases.new) }
     ensures less { OnOk result
         (session_left seats.new.items book.new.finished < session_left seats.old.items book.old.finished) }
-    ensures runs { OnOk result (book.new.end ≡ Dropped) }
-
-    ensures opening { book.new.opening ≡ book.old.opening }
-    ensures disk_fault { IsErrOf result Halt.DiskFault
-        → Rose (D.shows book.old.log.disk).faults (D.shows book.new.log.disk).faults }
-    ensures count { (D.shows book.old.log.disk).faults ≤ (D.shows book.new.log.disk).faults }
-    ensures told { is_some (D.shows book.new.log.disk).reads ≡ is_some (D.shows book.old.log.disk).reads }
+    ensures open { OnOk result (is_open_end book.new.end ≡ true) }
+    ensures goes { BookGoesOn D.shows book.old book.new }
 {
     let seat = seats.remove(place);
     let Seat {
@@ -119,7 +82,7 @@ fn move_client<T: Tables, D: Disk, G: Gate>(
     let mut notes = notes;
     let again = shared(&script)?;
     let mut office = Office::new(desk, client, again);
-    move_in(
+    make_move(
         alloc,
         gate,
         &mut office,
@@ -166,21 +129,16 @@ fn advance<T: Tables, D: Disk, G: Gate>(
     seats: &mut Vec<Seat>,
     databases: &mut SessionDatabases<T>,
     book: &mut SessionBook<D, T>,
-) -> Result<(Desk, bool), Halt>
+) -> Result<(Desk, bool), NoMemory>
     requires driving { IsDriving of.now.value desk seats.old.items (done_of_book book.old) databases.old }
-    requires runs { book.old.end ≡ Dropped }
+    requires open { is_open_end book.old.end ≡ true }
     ensures driving { IfOk result (λ r.
         IsDriving of.now.value r.0 seats.new.items (done_of_book book.new) databases.new) }
     ensures end { IfOk result (λ r. r.1 ≡ false → next_move (desk_run r.0) seats.new.items ≡ move.Nothing) }
     ensures less { IfOk result (λ r. r.1 ≡ true
         → session_left seats.new.items book.new.finished < session_left seats.old.items book.old.finished) }
-    ensures runs { OnOk result (book.new.end ≡ Dropped) }
-
-    ensures opening { book.new.opening ≡ book.old.opening }
-    ensures disk_fault { IsErrOf result Halt.DiskFault
-        → Rose (D.shows book.old.log.disk).faults (D.shows book.new.log.disk).faults }
-    ensures count { (D.shows book.old.log.disk).faults ≤ (D.shows book.new.log.disk).faults }
-    ensures told { is_some (D.shows book.new.log.disk).reads ≡ is_some (D.shows book.old.log.disk).reads }
+    ensures open { OnOk result (is_open_end book.new.end ≡ true) }
+    ensures goes { BookGoesOn D.shows book.old book.new }
 {
     match next_move(&desk, seats.as_slice()) {
         NextMove::Client(place) => Ok((
@@ -217,20 +175,15 @@ fn drive<T: Tables, D: Disk, G: Gate>(
     seats: &mut Vec<Seat>,
     databases: &mut SessionDatabases<T>,
     book: &mut SessionBook<D, T>,
-) -> Result<Desk, Halt>
+) -> Result<Desk, NoMemory>
     requires driving { IsDriving of.now.value desk seats.old.items (done_of_book book.old) databases.old }
-    requires runs { book.old.end ≡ Dropped }
+    requires open { is_open_end book.old.end ≡ true }
     ensures driving { IfOk result (λ last.
         IsDriving of.now.value last seats.new.items (done_of_book book.new) databases.new) }
     ensures end { IfOk result (λ last.
         IsAtEnd (session_seen last seats.new.items (done_of_book book.new) databases.new)) }
-    ensures runs { OnOk result (book.new.end ≡ Dropped) }
-
-    ensures opening { book.new.opening ≡ book.old.opening }
-    ensures disk_fault { IsErrOf result Halt.DiskFault
-        → Rose (D.shows book.old.log.disk).faults (D.shows book.new.log.disk).faults }
-    ensures count { (D.shows book.old.log.disk).faults ≤ (D.shows book.new.log.disk).faults }
-    ensures told { is_some (D.shows book.new.log.disk).reads ≡ is_some (D.shows book.old.log.disk).reads }
+    ensures open { OnOk result (is_open_end book.new.end ≡ true) }
+    ensures goes { BookGoesOn D.shows book.old book.new }
 {
     let mut desk = desk;
     'moves: loop {
@@ -242,28 +195,21 @@ fn drive<T: Tables, D: Disk, G: Gate>(
     }
 }
 
-/// The session is driven to its end, and its last commits are written unless it drops them; what is reported of it, but for the numbers
-/// of its transactions.
+/// The session is driven to its end, and its log is ended; what is reported of it, but for the numbers of its transactions.
 fn run_to_end<T: Tables, D: Disk, G: Gate>(
     alloc: Global,
     gate: &G,
     session: ScriptSession,
     opening: SessionOpening<T>,
     book: &mut SessionBook<D, T>,
-) -> Result<(Desk, Vec<Seat>, Opening), Halt>
+) -> Result<Ran, NoMemory>
     requires fresh { BeginsOn opening.databases opening.schemas opening.lines (done_of_book book.old) }
-    requires runs { book.old.end ≡ Dropped }
+    requires open { is_open_end book.old.end ≡ true }
     ensures ends { IfOk result (λ r. (items : Items)
-        × IsDriving session r.0 r.1.items (done_of_book book.new) items
-        × IsAtEnd (session_seen r.0 r.1.items (done_of_book book.new) items)) }
-    ensures lines { IfOk result (λ r. r.2 ≡ map has_of (finite.entries book.new.opening)) }
-    ensures end { OnOk result (book.new.end ≡ own_log_end session.drop_end) }
-
-    ensures opening { book.new.opening ≡ book.old.opening }
-    ensures disk_fault { IsErrOf result Halt.DiskFault
-        → Rose (D.shows book.old.log.disk).faults (D.shows book.new.log.disk).faults }
-    ensures count { (D.shows book.old.log.disk).faults ≤ (D.shows book.new.log.disk).faults }
-    ensures told { is_some (D.shows book.new.log.disk).reads ≡ is_some (D.shows book.old.log.disk).reads }
+        × RanTo session r.desk r.seats.items (done_of_book book.new) items book.new.end) }
+    ensures lines { IfOk result (λ r. r.opening ≡ map has_of (finite.entries book.new.opening)) }
+    ensures end { IfOk result (λ r. r.end ≡ report_end book.new.end) }
+    ensures goes { BookGoesOn D.shows book.old book.new }
 {
     under_way_laws();
     fitting_laws();
@@ -279,8 +225,13 @@ fn run_to_end<T: Tables, D: Disk, G: Gate>(
     let mut seats = seats_of(alloc, session.clients)?;
     let desk = Desk::new(alloc, schemas)?;
     let desk = drive(alloc, gate, &of, desk, &mut seats, &mut databases, book)?;
-    end_log(book, drop_end)?;
-    Ok((desk, seats, lines))
+    let end = end_log(book, drop_end)?;
+    Ok(Ran {
+        desk,
+        seats,
+        opening: lines,
+        end,
+    })
 }
 
 /// The session begins on the databases, and is run to its end.
@@ -290,22 +241,16 @@ fn open_and_run<T: Tables, D: Disk, G: Gate>(
     session: ScriptSession,
     databases: Databases<T>,
     book: &mut SessionBook<D, T>,
-) -> Result<(Desk, Vec<Seat>, Opening), Halt>
+) -> Result<Ran, NoMemory>
     requires items { databases ≡ book.old.opening }
     requires fresh { (book.old.finished ≡ []) × (book.old.commits ≡ []) }
     requires within { is_within_limits databases ≡ true }
     requires runs { book.old.end ≡ Dropped }
     ensures ends { IfOk result (λ r. (items : Items)
-        × IsDriving session r.0 r.1.items (done_of_book book.new) items
-        × IsAtEnd (session_seen r.0 r.1.items (done_of_book book.new) items)) }
-    ensures lines { IfOk result (λ r. r.2 ≡ map has_of (finite.entries book.new.opening)) }
-    ensures end { OnOk result (book.new.end ≡ own_log_end session.drop_end) }
-
-    ensures opening { book.new.opening ≡ book.old.opening }
-    ensures disk_fault { IsErrOf result Halt.DiskFault
-        → Rose (D.shows book.old.log.disk).faults (D.shows book.new.log.disk).faults }
-    ensures count { (D.shows book.old.log.disk).faults ≤ (D.shows book.new.log.disk).faults }
-    ensures told { is_some (D.shows book.new.log.disk).reads ≡ is_some (D.shows book.old.log.disk).reads }
+        × RanTo session r.desk r.seats.items (done_of_book book.new) items book.new.end) }
+    ensures lines { IfOk result (λ r. r.opening ≡ map has_of (finite.entries book.new.opening)) }
+    ensures end { IfOk result (λ r. r.end ≡ report_end book.new.end) }
+    ensures goes { BookGoesOn D.shows book.old book.new }
 {
     let opening = open_databases(alloc, databases)?;
     run_to_end(alloc, gate, session, opening, book)
@@ -315,39 +260,46 @@ fn open_and_run<T: Tables, D: Disk, G: Gate>(
 /// before its oldest event; where none has, the least transaction that isn't finished is run to its end, with its client's tasks
 /// between its turns, and entered in a book over the log. The gate is told of each request before it runs. What the session reports at
 /// its end is a legal report, and each image of the disk is found as so many of its commits as may be kept. Where the disk fails as a
-/// commit is written, the session stops there. Only that and want of memory stop it, as which more than 2^32 - 1 clients count.
+/// commit is written, that transaction is in doubt and the host is faulted, and where it fails at the last flush the session ends by
+/// that; the disk has counted the fault then. Only want of memory stops a session, as which more than 2^32 - 1 clients count.
 pub fn run_session<T: Tables, D: Disk, G: Gate>(
     alloc: Global,
     gate: &G,
     session: ScriptSession,
     number: u32,
     opened: Opened<D, T>,
-) -> (Result<Report, Halt>, D)
+) -> (Result<Report, NoMemory>, D)
     requires gives { HoldsItems D.shows opened.log opened.items }
     requires faultless { failed_at opened.log ≡ None }
     requires within { is_within_limits opened.items ≡ true }
     ensures reports { IfOk result.0 (λ report.
         ReportsOn session number opened.items report (D.shows result.1)) }
     ensures stops { OnErr result.0 (StopsOn opened.items (D.shows result.1)) }
-    ensures disk_fault { IsErrOf result.0 Halt.DiskFault
-        → Rose (D.shows (disk_of opened.log)).faults (D.shows result.1).faults }
+    ensures fault { IfOk result.0 (λ report. report.end ≡ end.Fault
+        → Rose (D.shows (disk_of opened.log)).faults (D.shows result.1).faults) }
     ensures count { (D.shows (disk_of opened.log)).faults ≤ (D.shows result.1).faults }
+    ensures started { (D.shows result.1).starts ≡ (D.shows (disk_of opened.log)).starts }
     ensures told { is_some (D.shows result.1).reads ≡ is_some (D.shows (disk_of opened.log)).reads }
 {
     under_way_laws();
-    let drop_end = session.drop_end;
     let (book, databases) = SessionBook::new(alloc, opened);
     let mut book = book;
     let ran = open_and_run(alloc, gate, session, databases, &mut book);
     let (disk, finish, commits) = book.into_parts();
     match ran {
-        Ok((desk, seats, lines)) => {
-            let told = report_of(alloc, desk, seats, lines, finish, commits, number, drop_end);
+        Ok(ran) => {
+            let Ran {
+                desk,
+                seats,
+                opening,
+                end,
+            } = ran;
+            let told = report_of(alloc, desk, seats, opening, finish, commits, number, end);
             match told {
                 Ok(report) => (Ok(report), disk),
-                Err(_) => (Err(Halt::NoMemory), disk),
+                Err(NoMemory) => (Err(NoMemory), disk),
             }
         }
-        Err(halt) => (Err(halt), disk),
+        Err(NoMemory) => (Err(NoMemory), disk),
     }
 }

@@ -5,14 +5,10 @@
 // log, and what it reports is a legal report.
 #![tactic(auto)]
 
-mod cancelling;
 mod choosing;
 mod driver;
-mod entering;
+mod ending;
 mod reporting;
-mod running;
 mod seats;
-mod serving;
 
 pub use driver::run_session;
-pub use entering::Halt;

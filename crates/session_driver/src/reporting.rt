@@ -1,7 +1,6 @@
 // The report of a session.
 ghost use Rattle.std.specs.Prelude.{◌≡◌, map, List, IfOk, [], ◌∷◌, ◌++◌};
 ghost use Rattle.std.specs.FinMap as finite;
-ghost use Rattle.legal_sessions.specs.Legal.{own_end};
 ghost use Rattle.client_machine.specs.Acts.{written_from};
 ghost use Rattle.session_states.specs.Sessions.{report_now};
 ghost use Rattle.session_driver.specs.Reporting.{lines_seen, report_told};
@@ -64,16 +63,6 @@ fn client_lines_of(alloc: Global, seats: Vec<Seat>) -> Result<ClientLines, NoMem
     Ok(clients)
 }
 
-fn own_end(drop_end: bool) -> ReportEnd
-    ensures { result ≡ own_end drop_end }
-{
-    if drop_end {
-        ReportEnd::Drop
-    } else {
-        ReportEnd::Flush
-    }
-}
-
 /// What the session reports at its end.
 pub(crate) fn report_of(
     alloc: Global,
@@ -83,10 +72,10 @@ pub(crate) fn report_of(
     finish: Numbers,
     commits: Numbers,
     number: u32,
-    drop_end: bool,
+    end: ReportEnd,
 ) -> Result<Report, NoMemory>
     ensures { IfOk result (λ report.
-        report ≡ report_told desk seats.items opening finish commits number drop_end) }
+        report ≡ report_told desk seats.items opening finish commits number end) }
 {
     let clients = client_lines_of(alloc, seats)?;
     let order = desk.tokens()?;
@@ -99,6 +88,6 @@ pub(crate) fn report_of(
         finish,
         commits,
         pending,
-        end: own_end(drop_end),
+        end,
     })
 }

@@ -2,14 +2,12 @@
 ghost use Rattle.std.specs.Prelude.{◌≡◌, ◌≤◌, ◌+◌, [], map, insert, IfOk, OnOk};
 ghost use Rattle.std.specs.Arc.{arc_value};
 ghost use Rattle.std.specs.Vec.{vec_len};
-ghost use Rattle.idb_desk.specs.Steps.{IsDeskRun};
 ghost use Rattle.client_machine.specs.ClientStates.{fresh_client};
 ghost use Rattle.session_states.specs.Sessions.{fresh_seats};
 ghost use Rattle.session_driver.specs.Seats.{seat_seen, script_of_seat};
 
 use client_parts::ScriptClient;
 use idb_base::NoMemory;
-use idb_desk::{Desk, DeskStep};
 use script_runs::Notes;
 use script_statements::{Client, Clients};
 use std::alloc::Global;
@@ -73,11 +71,4 @@ pub(crate) fn shared(script: &Arc<Client, Global>) -> Result<Arc<Client, Global>
     ensures { IfOk result (λ again. arc_value again ≡ arc_value script.now) }
 {
     Ok(script.clone()?)
-}
-
-/// A desk is a run: each of its steps was allowed where it stands.
-pub(crate) fn is_run(desk: &Desk)
-    ensures { IsDeskRun desk.now }
-{
-    let _ = desk.can(&DeskStep::Faults);
 }

@@ -30,7 +30,7 @@ use Rattle.script_handlers.specs.Handling.{Script, ScriptReacts, ScriptWrites}
 use Rattle.client_machine.specs.ClientStates.{ClientTxKind, OwnTx, OfUpgrade, OfDeletion, ClientTx, tx_at}
 use Rattle.session_states.specs.Sessions.{SeatNow, SessionNow}
 use Rattle.session_states.specs.Telling.{RunningTx}
-use Rattle.session_states.specs.UnderWay.{IsUnderWay}
+use Rattle.session_states.specs.UnderWay.{IsInStep}
 use Rattle.session_facts.specs.Fitting.{FitsUpgrade, FitsKind, FitsDrawn, FitsDesk, IsFitting}
 use Rattle.session_facts.proofs.Becoming.{left_same}
 use Rattle.session_facts.proofs.Desk.{some_same, equal_self, name_itself}
@@ -134,7 +134,7 @@ module _ (session : ScriptSession) (opening : Items) (now : SessionNow) (place :
       ∙ may_leave d seat.client.number ended None f.drawn f.client_is f.there.unfinished (not_committed (is_created_stage f.drawn.stage) ended aborted)
       (ap (λ b. fits_kept (name_asked_by d.board.clients f.drawn.who) f.drawn.kind b None) aborted ∙ aborted_fits (name_asked_by d.board.clients f.drawn.who) f.drawn.kind)
 
-  pub allowed_finish : (t : RunningTx) (tx : ClientTx) (part : Option Database) (turns : List (List Note)) (changes : List DeltaTree) (kept : Option SchemaData) (outcome : Outcome) → IsUnderWay session opening now (Some t) → tx_at seat.client t.number ≡ Some tx
+  pub allowed_finish : (t : RunningTx) (tx : ClientTx) (part : Option Database) (turns : List (List Note)) (changes : List DeltaTree) (kept : Option SchemaData) (outcome : Outcome) → IsInStep session opening now (Some t) → tx_at seat.client t.number ≡ Some tx
       → Runs part t.body turns changes kept outcome → is_allowed (desk_run now.run) (step.Leaves seat.client.number t.number outcome kept) ≡ true
   allowed_finish t tx part turns changes kept outcome u found run =
       let h = drawn_as t.number tx found in

@@ -30,9 +30,9 @@ use Rattle.client_machine.specs.TaskRuns.{RunsNow}
 use Rattle.client_seats.specs.Seating.{SitsAlike}
 use Rattle.client_seats.proofs.Laws.{seat_begins, seat_later, seat_started, seat_finished}
 use Rattle.client_ties.proofs.Laws.{IsSound, is_tame, made_turns, made_before, grows_now, grows_event, grows_end}
-use Rattle.session_states.specs.Sessions.{SeatNow, SessionNow, fresh_seats, fresh_session, with_seat, with_finished}
+use Rattle.session_states.specs.Sessions.{SeatNow, SessionNow, fresh_seats, fresh_session, with_seat, with_finished, with_fault}
 use Rattle.session_states.specs.Telling.{RunningTx}
-use Rattle.session_states.specs.UnderWay.{IsUnderWay}
+use Rattle.session_states.specs.UnderWay.{IsInStep}
 use Rattle.session_states.specs.Moves.{Moves}
 use Rattle.session_facts.specs.Fitting.{AreFew, FitsDrawn, FitsDesk, IsFitting}
 use Rattle.session_facts.proofs.Allowing.{drawn_as}
@@ -72,7 +72,7 @@ tame_none [] txs tame = tt
 tame_none (a ∷ acts) txs tame = (tame_all a txs tame.0, tame_none acts txs tame.1)
 
 -- ---- one client moves
-module _ (session : ScriptSession) (opening : Items) (now : SessionNow) (running : Option RunningTx) (u : IsUnderWay session opening now running) (fitting : IsFitting now) where
+module _ (session : ScriptSession) (opening : Items) (now : SessionNow) (running : Option RunningTx) (u : IsInStep session opening now running) (fitting : IsFitting now) where
   pub opens : OpensWell now.run
   opens = record { openable = fitting.openable; few = fitting.few }
 
@@ -233,3 +233,11 @@ module _ (session : ScriptSession) (opening : Items) (now : SessionNow) (running
         let made = made_turns before.client.number number now.run r turns (Makes (step.Leaves before.client.number number outcome None) told ∷ acts) m.made in
         with_finish e (with_seat place r seat now)
         (leaves_moved place script before seat acts r number tx outcome None told (with_notes (without_tx before.client number) (joined_lines turns)) tx.kind m.seat_at made m.run found (notes_alike (joined_lines turns) (without_tx before.client number)) ends)
+
+-- ---- the host is faulted
+pub faults_fitting : (now : SessionNow) → IsFitting now → IsDeskRun (with_step now.run step.Faults) → IsFitting (with_fault now)
+faults_fitting now f run = record { openable = f.openable; few = f.few; seats = each now.seats f.seats }
+  where
+    each : (ss : List SeatNow) → AllByRecursion (λ (s : SeatNow). FitsDesk now.run s.client) ss → AllByRecursion (λ (s : SeatNow). FitsDesk (with_step now.run step.Faults) s.client) ss
+    each [] all = tt
+    each (s ∷ ss) all = (later_fits now.run step.Faults s.client (record { openable = f.openable; few = f.few }) run refl (λ n. refl) all.0, each ss all.1)

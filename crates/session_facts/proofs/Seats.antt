@@ -21,7 +21,7 @@ use Rattle.client_ties.specs.Unfinished.{unfinished_of}
 use Rattle.client_ties.proofs.Laws.{first_drawn}
 use Rattle.session_states.specs.Sessions.{SeatNow, SessionNow}
 use Rattle.session_states.specs.Telling.{BegunAt, txs_at, shown_begun, RunningTx}
-use Rattle.session_states.specs.UnderWay.{AreSeats, IsWaiting, IsFirstWaiting, IsUnderWay}
+use Rattle.session_states.specs.UnderWay.{AreSeats, IsWaiting, IsFirstWaiting, IsInStep}
 use Rattle.session_facts.proofs.Desk.{some_same, equal, equal_self}
 
 -- ---- lists
@@ -73,13 +73,13 @@ seat_from first r waiting (c ∷ cs) (s ∷ ss) (a ∷ more) (suc place) seat ar
     (h.0 ∙ ap (λ n. n + 1) at, h.1 ∙ ap (λ n. txs_at n waiting) at)
 
 module _ (session : ScriptSession) (opening : Items) (now : SessionNow) where
-  pub seat_there : (running : Option RunningTx) (place : ℕ) (seat : SeatNow) (u : IsUnderWay session opening now running) → slice_get now.seats place ≡ Some seat → (seat.client.number ≡ place + 1) × (seat.client.txs ≡ txs_at place u.waiting)
+  pub seat_there : (running : Option RunningTx) (place : ℕ) (seat : SeatNow) (u : IsInStep session opening now running) → slice_get now.seats place ≡ Some seat → (seat.client.number ≡ place + 1) × (seat.client.txs ≡ txs_at place u.waiting)
   seat_there running place seat u at =
       let h = seat_from 0 now.run u.waiting session.clients now.seats u.acts place seat u.seats at in
       let same : 0 + place ≡ place = omega arith in
       (h.0 ∙ ap (λ n. n + 1) same, h.1 ∙ ap (λ n. txs_at n u.waiting) same)
 
-  pub apart_numbers : (running : Option RunningTx) (place other : ℕ) (seat its : SeatNow) (u : IsUnderWay session opening now running) → slice_get now.seats place ≡ Some seat → slice_get now.seats other ≡ Some its → other ≢ place → its.client.number ≢ seat.client.number
+  pub apart_numbers : (running : Option RunningTx) (place other : ℕ) (seat its : SeatNow) (u : IsInStep session opening now running) → slice_get now.seats place ≡ Some seat → slice_get now.seats other ≡ Some its → other ≢ place → its.client.number ≢ seat.client.number
   apart_numbers running place other seat its u at there out e =
       let a = (seat_there running place seat u at).0 in
       let b = (seat_there running other its u there).0 in
@@ -117,7 +117,7 @@ started_first d order acts t (b ∷ bs) shown first all =
       started = drawn.stage_is ∙ ap not (waits_as order acts t b all.0 first).1;
     }
 
-module _ (session : ScriptSession) (opening : Items) (now : SessionNow) (t : RunningTx) (u : IsUnderWay session opening now (Some t)) where
+module _ (session : ScriptSession) (opening : Items) (now : SessionNow) (t : RunningTx) (u : IsInStep session opening now (Some t)) where
   pub runs_as : (place : ℕ) (seat : SeatNow) (tx : ClientTx) → slice_get now.seats place ≡ Some seat → tx_at seat.client t.number ≡ Some tx → (tx.body ≡ t.body) × (tx.started ≡ true)
   runs_as place seat tx at found =
       let h = seat_there session opening now (Some t) place seat u at in

@@ -48,10 +48,10 @@ use Rattle.client_machine.specs.Acts.{Told, Act, Noted, Makes, Fails, Begins, Ta
 use Rattle.client_machine.specs.Answering.{MadeAtOnce}
 use Rattle.client_machine.specs.ClientStates.{ClientTxKind, OwnTx, OfUpgrade, OfDeletion, ClientTx, tx_at}
 use Rattle.client_ties.proofs.Laws.{is_tame, made_before, run_before, run_after}
-use Rattle.legal_sessions.specs.Histories.{ShowsItems}
-use Rattle.session_states.specs.Sessions.{SeatNow, SessionNow, fresh_session, with_seat, with_finished}
+use Rattle.session_states.specs.Histories.{ShowsItems}
+use Rattle.session_states.specs.Sessions.{SeatNow, SessionNow, fresh_session, with_seat, with_finished, with_fault}
 use Rattle.session_states.specs.Telling.{RunningTx}
-use Rattle.session_states.specs.UnderWay.{IsUnderWay}
+use Rattle.session_states.specs.UnderWay.{IsInStep}
 use Rattle.session_states.specs.Moves.{entry_ran, entry_dropped}
 use Rattle.session_facts.specs.Fitting.{FitsPlain, FitsUpgrade, FitsKind, FitsDrawn, IsFitting}
 use Rattle.session_facts.specs.Showing.{IsDatabaseOf, AgreesAt, IsShown, IsSoundKept}
@@ -445,7 +445,7 @@ module _ (below : Below) (laws : KeyLaws) (session : ScriptSession) (opening : I
       let same = databases_made before.client.number (with_step now.run t) r acts q (record { openable = w.openable; few = w.few }) made.1.1 run none ∙ ap (λ (d : DeskState). database_under d q) (run_after now.run t) in
       subst (λ o. AgreesAt q o (finite.get next q)) (sym same) (agrees q)
 
-  pub finish_shown : (t : RunningTx) (u : IsUnderWay session opening now (Some t)) (tx : ClientTx) (outcome : Outcome) (kept : Option SchemaData) (changes : List DeltaTree) (told : Told) (acts : List Act)
+  pub finish_shown : (t : RunningTx) (u : IsInStep session opening now (Some t)) (tx : ClientTx) (outcome : Outcome) (kept : Option SchemaData) (changes : List DeltaTree) (told : Told) (acts : List Act)
       → MadeAtOnce before.client.number now.run (Makes (step.Leaves before.client.number t.number outcome kept) told ∷ acts) r → IsDeskRun r → LeavesNone acts → tx_at before.client t.number ≡ Some tx
       → Ran now.items t.body t.turns changes kept outcome → IsSoundKept kept → IsShown (with_finished (entry_ran t changes kept outcome) (with_seat place r seat now))
   finish_shown t u tx outcome kept changes told acts made run none found ran sound = record { each = left_here t.number outcome kept told acts (applied_all now.items (changes_kept (entry_ran t changes kept outcome))) made run none (by_outcome outcome made ran (kept_within ScriptReacts ScriptWrites now.items (entry_ran t changes kept outcome) ran)) }
@@ -475,25 +475,34 @@ module _ (below : Below) (laws : KeyLaws) (session : ScriptSession) (opening : I
           aborted_shown below laws now.items (desk_run now.run) before.client.number t.number (Aborted error doubt) kept h.0.name h.0.drawn sure there allowed shown.each t.body changes refl
 
   -- one that never started leaves nothing
-  never_committed : (body : TxBody Script) (turns : List (List Note)) (outcome : Outcome) → NeverStarts ScriptReacts ScriptWrites body turns [] None false outcome → is_committed outcome ≡ false
-  never_committed (Scripted body) turns outcome never = ap is_committed never.cancelled.ended
-  never_committed (Deletion name) turns outcome never = ap is_committed never.cancelled.2
+  never_committed : (body : TxBody Script) (turns : List (List Note)) (by_host : Bool) (outcome : Outcome) → NeverStarts ScriptReacts ScriptWrites body turns [] None by_host outcome → is_committed outcome ≡ false
+  never_committed (Scripted body) turns by_host outcome never = ap is_committed never.cancelled.ended
+  never_committed (Deletion name) turns by_host outcome never = ap is_committed never.cancelled.2
 
   nothing_kept : (items : Items) (b : Bool) → applied_all items (if b then [] else []) ≡ items
   nothing_kept items true = refl
   nothing_kept items false = refl
 
-  pub cancel_shown : (running : Option RunningTx) (u : IsUnderWay session opening now running) (number : ℕ) (tx : ClientTx) (outcome : Outcome) (turns : List (List Note)) (told : Told) (acts : List Act)
+  pub cancel_shown : (running : Option RunningTx) (u : IsInStep session opening now running) (number : ℕ) (tx : ClientTx) (by_host : Bool) (outcome : Outcome) (turns : List (List Note)) (told : Told) (acts : List Act)
       → MadeAtOnce before.client.number now.run (Makes (step.Leaves before.client.number number outcome None) told ∷ acts) r → IsDeskRun r → LeavesNone acts → tx_at before.client number ≡ Some tx
-      → NeverStarts ScriptReacts ScriptWrites tx.body turns [] None false outcome → IsShown (with_finished (entry_dropped number tx.body turns outcome) (with_seat place r seat now))
-  cancel_shown running u number tx outcome turns told acts made run none found never =
+      → NeverStarts ScriptReacts ScriptWrites tx.body turns [] None by_host outcome → IsShown (with_finished (record (entry_dropped number tx.body turns outcome) { by_host = by_host }) (with_seat place r seat now))
+  cancel_shown running u number tx by_host outcome turns told acts made run none found never =
       let f = drawn_as session opening now place before fitting at number tx found in
       let d = desk_run now.run in
       let t = step.Leaves before.client.number number outcome None in
       let allowed = (run_before now.run t (made_before before.client.number (with_step now.run t) r acts made.1.1 run)).1 in
       let there : IsUnfinishedOf d number f.0.name f.0.drawn = subst (λ n. IsUnfinishedOf d n f.0.name f.0.drawn) f.1 f.0.there in
-      let agrees = aborted_shown below laws now.items d before.client.number number outcome None f.0.name f.0.drawn (sure_at now.run w u.desk) there allowed shown.each tx.body [] (never_committed tx.body turns outcome never) in
+      let agrees = aborted_shown below laws now.items d before.client.number number outcome None f.0.name f.0.drawn (sure_at now.run w u.desk) there allowed shown.each tx.body [] (never_committed tx.body turns by_host outcome never) in
       record {
         each = left_here number outcome None told acts (applied_all now.items (changes_kept (entry_dropped number tx.body turns outcome))) made run none
             (λ q. subst (λ next. AgreesAt q (database_under (after d t) q) (finite.get next q)) (sym (nothing_kept now.items (did_commit outcome))) (agrees q));
       }
+
+-- ---- the host is faulted
+pub faults_shown : (now : SessionNow) → OpensWell now.run → IsShown now → IsDeskRun (with_step now.run step.Faults) → IsShown (with_fault now)
+faults_shown now w shown run = record {
+  each = λ q.
+      let at = run_before now.run step.Faults run in
+      let same = ap (λ (d : DeskState). database_under d q) (run_after now.run step.Faults) ∙ step_keeps (desk_run now.run) step.Faults q (sure_at now.run w at.0).orderly at.1 refl in
+      subst (λ o. AgreesAt q o (finite.get now.items q)) (sym same) (shown.each q);
+}

@@ -33,7 +33,7 @@ use Rattle.client_machine.specs.Answering.{at_new_version}
 use Rattle.client_machine.specs.ClientStates.{ClientTxKind, OwnTx, OfUpgrade, OfDeletion, ClientTx, tx_at}
 use Rattle.session_states.specs.Sessions.{SeatNow, SessionNow}
 use Rattle.session_states.specs.Telling.{RunningTx}
-use Rattle.session_states.specs.UnderWay.{IsUnderWay}
+use Rattle.session_states.specs.UnderWay.{IsInStep}
 use Rattle.session_facts.specs.Fitting.{schema_or_new, FitsPlain, FitsUpgrade, FitsKind, IsFitting}
 use Rattle.session_facts.specs.Showing.{IsDatabaseOf, AgreesAt, IsShown}
 use Rattle.session_facts.proofs.Allowing.{drawn_as}
@@ -154,7 +154,7 @@ fits_by_kind items d number name t (OwnTx complete abort env) body sure there ki
 fits_by_kind items d number name t OfUpgrade body sure there kind.Deletion is f agrees = absurd f
 fits_by_kind items d number name t OfDeletion body sure there kind.Deletion is f agrees = absurd f
 
-pub fits_whole : (session : ScriptSession) (opening : Items) (now : SessionNow) (running : Option RunningTx) (place : ℕ) (seat : SeatNow) (number : ℕ) (tx : ClientTx) (body : ScriptedBody Script) → IsUnderWay session opening now running → IsFitting now → IsShown now
+pub fits_whole : (session : ScriptSession) (opening : Items) (now : SessionNow) (running : Option RunningTx) (place : ℕ) (seat : SeatNow) (number : ℕ) (tx : ClientTx) (body : ScriptedBody Script) → IsInStep session opening now running → IsFitting now → IsShown now
     → slice_get now.seats place ≡ Some seat → tx_at seat.client number ≡ Some tx → tx.body ≡ Scripted body → FitsWhole (part_of (scope_of_body (Scripted body)) now.items) body
 fits_whole session opening now running place seat number tx body u fitting shown at found is =
     let f = (drawn_as session opening now place seat fitting at number tx found).0 in
@@ -182,7 +182,7 @@ deleted_by_kind items d number name deleted t OfUpgrade sure there kind.Deletion
 deleted_by_kind items d number name deleted t OfDeletion sure there kind.Deletion is f agrees =
     ap (λ n. is_some (finite.get items n)) f ∙ agrees_some name (database_under d name) (finite.get items name) agrees (there_deletion d number name t sure there is)
 
-pub deleted_there : (session : ScriptSession) (opening : Items) (now : SessionNow) (running : Option RunningTx) (place : ℕ) (seat : SeatNow) (number : ℕ) (tx : ClientTx) (deleted : Name) → IsUnderWay session opening now running → IsFitting now → IsShown now
+pub deleted_there : (session : ScriptSession) (opening : Items) (now : SessionNow) (running : Option RunningTx) (place : ℕ) (seat : SeatNow) (number : ℕ) (tx : ClientTx) (deleted : Name) → IsInStep session opening now running → IsFitting now → IsShown now
     → slice_get now.seats place ≡ Some seat → tx_at seat.client number ≡ Some tx → tx.body ≡ Deletion deleted → is_some (finite.get now.items deleted) ≡ true
 deleted_there session opening now running place seat number tx deleted u fitting shown at found is =
     let f = (drawn_as session opening now place seat fitting at number tx found).0 in

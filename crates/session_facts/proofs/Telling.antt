@@ -15,7 +15,7 @@ use Rattle.client_machine.specs.Answering.{told_by, at_new_version}
 use Rattle.client_machine.specs.ClientStates.{OpenAsked, open_at}
 use Rattle.session_states.specs.Sessions.{SeatNow, SessionNow}
 use Rattle.session_states.specs.Telling.{RunningTx}
-use Rattle.session_states.specs.UnderWay.{IsUnderWay}
+use Rattle.session_states.specs.UnderWay.{IsInStep}
 use Rattle.session_facts.specs.Fitting.{IsFitting}
 use Rattle.session_facts.proofs.Carrying.{open_named, sure_at}
 use Rattle.session_facts.proofs.Desk.{IsSureDesk, event_own}
@@ -26,7 +26,7 @@ named_some : {X Y : Type 0} (f : X → Y) (o : Option X) (y : Y) → option_map 
 named_some f None y e = cc
 named_some f (Some x) y e = (x, refl)
 
-module _ (session : ScriptSession) (opening : Items) (now : SessionNow) (running : Option RunningTx) (place : ℕ) (seat : SeatNow) (u : IsUnderWay session opening now running) (fitting : IsFitting now) (at : slice_get now.seats place ≡ Some seat) where
+module _ (session : ScriptSession) (opening : Items) (now : SessionNow) (running : Option RunningTx) (place : ℕ) (seat : SeatNow) (u : IsInStep session opening now running) (fitting : IsFitting now) (at : slice_get now.seats place ≡ Some seat) where
   sure : IsSureDesk (desk_run now.run)
   sure = sure_at now.run (opens session opening now running u fitting) u.desk
 

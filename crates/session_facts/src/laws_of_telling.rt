@@ -27,7 +27,7 @@ ghost use Rattle.client_machine.specs.ClientSteps.{may_begin};
 ghost use Rattle.client_machine.specs.TaskRuns.{RunsNow};
 ghost use Rattle.session_states.specs.Sessions.{SeatNow, SessionNow};
 ghost use Rattle.session_states.specs.Telling.{RunningTx};
-ghost use Rattle.session_states.specs.UnderWay.{IsUnderWay};
+ghost use Rattle.session_states.specs.UnderWay.{IsInStep};
 ghost use Rattle.session_facts.specs.Fitting.{IsFitting};
 
 use idb_desk::desk_laws;
@@ -39,19 +39,19 @@ use idb_desk::desk_laws;
 pub fn telling_laws()
     ensures opens { (session : ScriptSession) (opening : Items) (now : SessionNow)
         (running : Option RunningTx) (place : ℕ) (seat : SeatNow) (e : ClientEvent)
-        → IsUnderWay session opening now running → IsFitting now → slice_get now.seats place ≡ Some seat
+        → IsInStep session opening now running → IsFitting now → slice_get now.seats place ≡ Some seat
         → event_for (desk_run now.run) seat.client.number ≡ Some e
         → (o : OpenAsked) × (open_at seat.client (conn_of e).request ≡ Some o) }
     ensures upgrades { (session : ScriptSession) (opening : Items) (now : SessionNow)
         (running : Option RunningTx) (place : ℕ) (seat : SeatNow) (who : ConnId) (old new : ℕ)
-        → IsUnderWay session opening now running → IsFitting now → slice_get now.seats place ≡ Some seat
+        → IsInStep session opening now running → IsFitting now → slice_get now.seats place ≡ Some seat
         → event_for (desk_run now.run) seat.client.number ≡ Some (event.Upgrade who old new)
         → (number : ℕ) × ((schema : SchemaData)
         × (((told_by (desk_run now.run) (step.Takes seat.client.number)).number ≡ Some number)
         × ((told_by (desk_run now.run) (step.Takes seat.client.number)).schema ≡ Some schema))) }
     ensures deletions { (session : ScriptSession) (opening : Items) (now : SessionNow)
         (running : Option RunningTx) (place : ℕ) (seat : SeatNow) (who : ConnId) (old : ℕ)
-        → IsUnderWay session opening now running → IsFitting now → slice_get now.seats place ≡ Some seat
+        → IsInStep session opening now running → IsFitting now → slice_get now.seats place ≡ Some seat
         → event_for (desk_run now.run) seat.client.number ≡ Some (event.DeleteReady who old)
         → (number : ℕ)
         × ((told_by (desk_run now.run) (step.Takes seat.client.number)).number ≡ Some number) }
@@ -61,13 +61,13 @@ pub fn telling_laws()
     ensures aborted { (session : ScriptSession) (opening : Items) (now : SessionNow)
         (running : Option RunningTx)
         (place : ℕ) (seat : SeatNow) (number : ℕ) (tx : ClientTx) (ended : Outcome)
-        → IsUnderWay session opening now running → IsFitting now → slice_get now.seats place ≡ Some seat
+        → IsInStep session opening now running → IsFitting now → slice_get now.seats place ≡ Some seat
         → tx_at seat.client number ≡ Some tx → is_committed ended ≡ false
         → is_allowed (desk_run now.run) (step.Leaves seat.client.number number ended None) ≡ true }
     ensures finishes { (session : ScriptSession) (opening : Items) (now : SessionNow) (t : RunningTx)
         (place : ℕ) (seat : SeatNow) (tx : ClientTx) (part : Option Database) (turns : List (List Note))
         (changes : List DeltaTree) (kept : Option SchemaData) (outcome : Outcome)
-        → IsUnderWay session opening now (Some t) → IsFitting now → slice_get now.seats place ≡ Some seat
+        → IsInStep session opening now (Some t) → IsFitting now → slice_get now.seats place ≡ Some seat
         → tx_at seat.client t.number ≡ Some tx
         → RunsOn ScriptReacts ScriptWrites part t.body turns changes kept false outcome
         → is_allowed (desk_run now.run) (step.Leaves seat.client.number t.number outcome kept) ≡ true }

@@ -24,9 +24,9 @@ use Rattle.script_statements.specs.declared.script.ScriptSession.{ScriptSession}
 use Rattle.script_handlers.specs.Handling.{Script}
 use Rattle.client_machine.specs.ClientStates.{ClientTxKind, OwnTx, OfUpgrade, OfDeletion, ClientTx, tx_at}
 use Rattle.legal_sessions.specs.Histories.{has_schema_name, ShowsItems}
-use Rattle.session_states.specs.Sessions.{SeatNow, SessionNow}
-use Rattle.session_states.specs.Telling.{RunningTx}
-use Rattle.session_states.specs.UnderWay.{IsUnderWay}
+use Rattle.session_facts.specs.Sessions.{SeatNow, SessionNow}
+use Rattle.session_facts.specs.Telling.{RunningTx}
+use Rattle.session_facts.specs.UnderWay.{IsInStep}
 use Rattle.session_facts.specs.Fitting.{AreFew, FitsKind, FitsDrawn, FitsDesk, IsFitting}
 use Rattle.session_limits.specs.Ranges.{AreInRange}
 use Rattle.session_limits.proofs.Lists.{all_two, all_got, tx_found}
@@ -78,7 +78,7 @@ new_version there name kind.Deletion OfUpgrade body f upgrade = absurd f
 new_version there name kind.Deletion OfDeletion body f upgrade = absurd f
 
 pub upgrade_bodies : (session : ScriptSession) (opening : Items) (now : SessionNow) (running : Option RunningTx) (place : ℕ) (seat : SeatNow) (number : ℕ) (tx : ClientTx) (body : ScriptedBody Script)
-    → IsUnderWay session opening now running → IsFitting now → AreItems opening → slice_get now.seats place ≡ Some seat → tx_at seat.client number ≡ Some tx → tx.body ≡ Scripted body
+    → IsInStep session opening now running → IsFitting now → AreItems opening → slice_get now.seats place ≡ Some seat → tx_at seat.client number ≡ Some tx → tx.body ≡ Scripted body
     → is_upgrade_mode body.mode ≡ true → is_version body.schema.version ≡ true
 upgrade_bodies session opening now running place seat number tx body u fitting items at found is upgrade =
     let fits = all_got (λ (s : SeatNow). FitsDesk now.run s.client) now.seats place seat fitting.seats at in
@@ -100,7 +100,7 @@ few_body r name kind.Deletion OfUpgrade body few desk f = absurd f
 few_body r name kind.Deletion OfDeletion body few desk f = absurd f
 
 pub few_bodies : (session : ScriptSession) (opening : Items) (now : SessionNow) (running : Option RunningTx) (place : ℕ) (seat : SeatNow) (number : ℕ) (tx : ClientTx) (body : ScriptedBody Script)
-    → IsUnderWay session opening now running → IsFitting now → slice_get now.seats place ≡ Some seat → tx_at seat.client number ≡ Some tx → tx.body ≡ Scripted body
+    → IsInStep session opening now running → IsFitting now → slice_get now.seats place ≡ Some seat → tx_at seat.client number ≡ Some tx → tx.body ≡ Scripted body
     → length body.schema.entries ≤ GREATEST_STORE_COUNT
 few_bodies session opening now running place seat number tx body u fitting at found is =
     let fits = all_got (λ (s : SeatNow). FitsDesk now.run s.client) now.seats place seat fitting.seats at in

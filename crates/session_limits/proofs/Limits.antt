@@ -1,7 +1,7 @@
 -- The limits on databases and stores.
 --     AreFewStores, few_run     at the desk no database has too many stores
 --     names_run             at most 16 names have a place
---     within_limits         so the databases of a session stay within limits
+--     within_run, within_limits     so the databases of a session stay within limits
 use Rattle.std.proofs.Common.{◌≡◌, ◌≤◌, ℕ, Bool, true, false, nat_eq, nat_le, nat_lt, if◌then◌else◌, is_none, is_some, List, [], ◌∷◌, map, filter, length, Option, Some, None, inl, inr, refl, sym, ap, ◌∙◌, subst, arith}
 use Rattle.std.specs.Prelude.{◌==◌, ◌||◌}
 use Rattle.std.specs.List.{AllByRecursion, IsDistinct, list_all}
@@ -39,9 +39,10 @@ use Rattle.idb_databases.specs.declared.limits.TheConstants.{GREATEST_DATABASE_C
 use Rattle.list_machine.specs.declared.limits.TheConstants.{GREATEST_STORE_COUNT}
 use Rattle.machine_laws.specs.Keeping.{info_named}
 use Rattle.script_statements.specs.declared.script.ScriptSession.{ScriptSession}
-use Rattle.session_states.specs.Sessions.{SessionNow}
-use Rattle.session_states.specs.Telling.{RunningTx}
-use Rattle.session_states.specs.UnderWay.{IsUnderWay}
+use Rattle.legal_sessions.specs.Histories.{ShowsItems}
+use Rattle.session_facts.specs.Sessions.{SessionNow}
+use Rattle.session_facts.specs.Telling.{RunningTx}
+use Rattle.session_facts.specs.UnderWay.{IsInStep}
 use Rattle.session_facts.specs.Fitting.{AreFew, IsFitting}
 use Rattle.session_facts.specs.Showing.{IsDatabaseOf, AgreesAt, IsShown}
 use Rattle.session_limits.proofs.Bounds.{HasAll}
@@ -194,21 +195,25 @@ opening_few schemas opening openable each =
     let n = finite.len-entries opening in
     omega (arith, few, l, k, n)
 
-pub within_limits : (session : ScriptSession) (opening : Items) (now : SessionNow) (running : Option RunningTx) → IsUnderWay session opening now running → IsFitting now → IsShown now → is_within_limits opening ≡ true → is_within_limits now.items ≡ true
-within_limits session opening now running u fitting shown limits =
-    let names = (desk_run now.run).queues.names in
-    let shaped = (orderly_run now.run fitting.openable u.desk).queued.shaped in
+-- items that agree with a run of the desk
+pub within_run : (r : DeskRun) (opening items : Items) → AreOpenable r.opening → AreFew r.opening → ShowsItems r.opening opening → IsDeskRun r → ((q : Name) → AgreesAt q (database_under (desk_run r) q) (finite.get items q)) → is_within_limits opening ≡ true → is_within_limits items ≡ true
+within_run r opening items openable fewest shows run agrees limits =
+    let names = (desk_run r).queues.names in
+    let shaped = (orderly_run r openable run).queued.shaped in
     let most = leb-true (finite.len opening) GREATEST_DATABASE_COUNT (and_parts (nat_le (finite.len opening) GREATEST_DATABASE_COUNT) _ limits).0 in
-    let begins = opening_few now.run.opening opening fitting.openable u.shows.only in
-    let few = names_run now.run fitting.openable (omega (arith, most, begins)) u.desk in
-    let counted = len_within now.items (map name_of (filter has_place names)) (λ q x at.
-    let there = database_there q (database_under (desk_run now.run) q) x (subst (AgreesAt q (database_under (desk_run now.run) q)) at (shown.each q)) in
+    let begins = opening_few r.opening opening openable shows.only in
+    let few = names_run r openable (omega (arith, most, begins)) run in
+    let counted = len_within items (map name_of (filter has_place names)) (λ q x at.
+    let there = database_there q (database_under (desk_run r) q) x (subst (AgreesAt q (database_under (desk_run r) q)) at (agrees q)) in
     named_place names q there.0 shaped there.1)
     in
     let l = length-map (filter has_place names) name_of in
-    let count : nat_le (finite.len now.items) GREATEST_DATABASE_COUNT ≡ true = le-leb (finite.len now.items) GREATEST_DATABASE_COUNT (omega (arith, few, counted, l)) in
-    let stores : list_all fits_stores (finite.values now.items) ≡ true = values_pass fits_stores now.items (λ q x at.
-    let there = database_there q (database_under (desk_run now.run) q) x (subst (AgreesAt q (database_under (desk_run now.run) q)) at (shown.each q)) in
-    stores_few q there.0 x there.2 (few_run now.run q there.0 fitting.few u.desk there.1))
+    let count : nat_le (finite.len items) GREATEST_DATABASE_COUNT ≡ true = le-leb (finite.len items) GREATEST_DATABASE_COUNT (omega (arith, few, counted, l)) in
+    let stores : list_all fits_stores (finite.values items) ≡ true = values_pass fits_stores items (λ q x at.
+    let there = database_there q (database_under (desk_run r) q) x (subst (AgreesAt q (database_under (desk_run r) q)) at (agrees q)) in
+    stores_few q there.0 x there.2 (few_run r q there.0 fewest run there.1))
     in
     rw count stores
+
+pub within_limits : (session : ScriptSession) (opening : Items) (now : SessionNow) (running : Option RunningTx) → IsInStep session opening now running → IsFitting now → IsShown now → is_within_limits opening ≡ true → is_within_limits now.items ≡ true
+within_limits session opening now running u fitting shown limits = within_run now.run opening now.items fitting.openable fitting.few u.shows u.desk shown.each limits

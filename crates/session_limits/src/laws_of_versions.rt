@@ -16,9 +16,9 @@ ghost use Rattle.script_statements.specs.declared.script.ScriptSession.{ScriptSe
 ghost use Rattle.script_handlers.specs.Handling.{Script};
 ghost use Rattle.client_machine.specs.ClientStates.{ClientTx, tx_at};
 ghost use Rattle.legal_sessions.specs.Histories.{ShowsItems};
-ghost use Rattle.session_states.specs.Sessions.{SeatNow, SessionNow};
-ghost use Rattle.session_states.specs.Telling.{RunningTx};
-ghost use Rattle.session_states.specs.UnderWay.{IsUnderWay};
+ghost use Rattle.session_facts.specs.Sessions.{SeatNow, SessionNow};
+ghost use Rattle.session_facts.specs.Telling.{RunningTx};
+ghost use Rattle.session_facts.specs.UnderWay.{IsInStep};
 ghost use Rattle.session_facts.specs.Fitting.{IsFitting};
 ghost use Rattle.session_limits.specs.Ranges.{AreInRange};
 
@@ -39,7 +39,7 @@ pub fn version_laws()
     ensures bodies { (session : ScriptSession) (opening : Items) (now : SessionNow)
         (running : Option RunningTx) (place : ℕ) (seat : SeatNow) (number : ℕ) (tx : ClientTx)
         (body : ScriptedBody Script)
-        → IsUnderWay session opening now running → IsFitting now → AreItems opening
+        → IsInStep session opening now running → IsFitting now → AreItems opening
         → slice_get now.seats place ≡ Some seat → tx_at seat.client number ≡ Some tx → tx.body ≡ Scripted body
         → is_upgrade_mode body.mode ≡ true → is_version body.schema.version ≡ true }
 {}

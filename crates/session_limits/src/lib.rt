@@ -11,3 +11,4 @@ mod laws_of_versions;
 pub use laws_of_limits::limit_laws;
 pub use laws_of_resting::resting_laws;
 pub use laws_of_versions::version_laws;
+pub use session_facts::{fitting_laws, showing_laws, telling_laws};

@@ -9,6 +9,3 @@ mod openings;
 mod schemas;
 
 pub use openings::{SessionOpening, open_databases};
-
-#[cfg(test)]
-mod tests;

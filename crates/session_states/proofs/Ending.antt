@@ -1,8 +1,7 @@
 -- At its end a session is legal, and its report is a legal one.
-use Rattle.std.proofs.Common.{◌≡◌, ℕ, ◌+◌, ◌<◌, nat_lt, true, false, ◌||◌, List, [], ◌∷◌, ◌++◌, map, length, slice_get, if◌then◌else◌, Option, Some, le-ltb, refl, sym, ◌∙◌, ap, subst, arith}
+use Rattle.std.proofs.Common.{◌≡◌, ℕ, ◌+◌, ◌<◌, nat_lt, true, false, List, [], ◌∷◌, ◌++◌, map, length, slice_get, if◌then◌else◌, Option, Some, le-ltb, refl, sym, ◌∙◌, ap, subst, arith}
 use Rattle.std.specs.Prelude.{⊤}
-use Rattle.std.specs.Bool.{MatchBool}
-use Rattle.std.specs.List.{list_any, AllByRecursion}
+use Rattle.std.specs.List.{AllByRecursion}
 use Rattle.std.specs.List.Sorted.{IsPermutation}
 use Rattle.std.proofs.lemmas.List.{append-nil, append_assoc, map-append}
 use Rattle.std.proofs.lemmas.List.Sorted.{IsPermutation-map}
@@ -13,10 +12,10 @@ use Rattle.idb_desk.specs.Steps.{DeskRun, desk_run, IsDeskRun}
 use Rattle.item_changes.specs.Items.{Items}
 use Rattle.record_bytes.specs.declared.records.LogRecord.{LogRecord}
 use Rattle.log_history.specs.Batching.{Commit}
-use Rattle.report_lines.specs.declared.reports.ReportEnd.TheVariants as end
-use Rattle.serial_order.specs.FinishEntries.{FinishEntry, did_commit}
-use Rattle.serial_order.specs.SerialRuns.{IsSerial, items_after}
-use Rattle.serial_order.specs.NumberOrder.{both_run, IsInOrder, placed_by_number, by_number}
+use Rattle.log_history.specs.Kept.{End}
+use Rattle.client_machine.specs.FinishEntries.{FinishEntry}
+use Rattle.client_machine.specs.SerialRuns.{IsSerial, items_after}
+use Rattle.client_machine.specs.NumberOrder.{both_run, IsInOrder, placed_by_number, by_number}
 use Rattle.script_statements.specs.declared.script.Client.{Client}
 use Rattle.script_statements.specs.declared.script.ScriptSession.{ScriptSession}
 use Rattle.script_runs.specs.declared.notes.Note.{Note}
@@ -27,10 +26,10 @@ use Rattle.client_ties.specs.Unfinished.{AreDrawn}
 use Rattle.client_ties.proofs.Laws.{IsSound, none_unfinished}
 use Rattle.legal_sessions.specs.Histories.{AreClientRuns}
 use Rattle.legal_sessions.specs.SerialResults.{BegunTx, begun_in, begun_by, AreEntriesOf}
-use Rattle.legal_sessions.specs.Legal.{is_in_doubt, DoubtsFit, own_end, commits_of, record_of_entry, records_logged, commit_at, IsLegalReport}
+use Rattle.legal_sessions.specs.Legal.{commits_of, record_of_entry, records_logged, commit_at, EndsSo, IsLegalReport}
 use Rattle.session_states.specs.Sessions.{SeatNow, SessionNow, commit_numbers, IsAtEnd, report_now}
 use Rattle.session_states.specs.Telling.{ToldTx, BegunAt, begun_at, begun_from, acts_where, acts_at, shown_begun, as_begun, RunningTx}
-use Rattle.session_states.specs.UnderWay.{AreSeats, AreFinishedAs, IsWhole, IsUnderWay}
+use Rattle.session_states.specs.UnderWay.{AreSeats, AreFinishedAs, IsUnderWay}
 
 -- ---- the clients
 client_runs : (place : ℕ) (r : DeskRun) (scripts : List Client) (seats : List SeatNow) (acts : List (List Act)) → AreSeats place r [] scripts seats acts
@@ -136,24 +135,16 @@ in_order : (first : ℕ) (es : List Entry) → RiseFrom first es → IsInOrder e
 in_order first [] rise = tt
 in_order first (e ∷ es) rise = (later e first (first + 1) es rise.0 (omega arith) rise.1, in_order (first + 1) es rise.1)
 
--- ---- faults
-doubts_fit : (es : List Entry) → AllByRecursion IsWhole es → DoubtsFit es
-doubts_fit [] all = tt
-doubts_fit (e ∷ es) all = subst (λ b. MatchBool b (AllByRecursion (λ (f : Entry). (did_commit f.outcome ≡ false) × (is_in_doubt f.outcome ≡ false)) es) ((e.by_host ≡ false) × DoubtsFit es)) (sym all.0.0) (all.0.1, doubts_fit es all.1)
-
-no_doubt : (es : List Entry) → AllByRecursion IsWhole es → list_any (λ (e : Entry). is_in_doubt e.outcome) es ≡ false
-no_doubt [] all = refl
-no_doubt (e ∷ es) all = ap (λ b. b || list_any (λ (f : Entry). is_in_doubt f.outcome) es) all.0.0 ∙ no_doubt es all.1
-
 -- ---- the end
 none_waits : (bs : List BegunAt) → map shown_begun bs ≡ [] → bs ≡ []
 none_waits [] e = refl
 none_waits (b ∷ bs) e = cc
 
 module _ (sound : (r : DeskRun) → IsDeskRun r → IsSound (desk_run r)) where
-  pub legal_at_end : (session : ScriptSession) (number : ℕ) (opening : Items) (now : SessionNow) (running : Option RunningTx) → IsUnderWay session opening now running → IsAtEnd now
-      → IsLegalReport session number opening (report_now session number opening now) now.commits now.items
-  legal_at_end session number opening now running u at_end =
+  pub legal_at_end : (session : ScriptSession) (number : ℕ) (opening : Items) (now : SessionNow) (running : Option RunningTx) (log_end : End) → IsUnderWay session opening now running → IsAtEnd now
+      → EndsSo session.drop_end now.doubts log_end → IsLegalReport session number opening (report_now number opening now log_end) now.commits log_end now.items
+  legal_at_end session number opening now running log_end way at_end ends =
+      let u = way.in_step in
       let none : u.waiting ≡ [] = none_waits u.waiting (sym u.begun.unfinished ∙ none_unfinished sound now.run u.desk at_end.no_transaction) in
       let all_done : u.done ++ u.waiting ≡ u.done = ap (λ ws. u.done ++ ws) none ∙ append-nil u.done in
       let numbers = subst (λ bs. AreDrawn 1 (map shown_begun bs) (desk_run now.run).board.scopes.next) all_done u.begun.numbers in
@@ -173,7 +164,7 @@ module _ (sound : (r : DeskRun) → IsDeskRun r → IsSound (desk_run r)) where
             serial = subst (IsSerial ScriptReacts ScriptWrites opening) (sym placed) u.finished.serial;
           };
           in_order = in_order 1 u.entries rise;
-          faults = record { doubts = doubts_fit u.entries u.finished.whole; marked = u.calm ∙ sym (no_doubt u.entries u.finished.whole) };
+          faults = record { doubts = way.faults.doubts; marked = way.faults.marked };
         };
         told = record {
           session = refl;
@@ -183,8 +174,9 @@ module _ (sound : (r : DeskRun) → IsDeskRun r → IsSound (desk_run r)) where
           finish = u.finished.finish;
           commits = ap commit_numbers u.finished.commits ∙ map-map (λ (c : Commit). c.logged.number) (commit_at now.run.order) (records_logged u.entries) ∙ map-map (λ (r : LogRecord). r.number) record_of_entry (commits_of u.entries);
           pending = refl;
-          end = ap (λ b. if b then end.Fault else own_end session.drop_end) (sym u.calm);
+          end = refl;
         };
         logged = u.finished.commits;
+        ended = subst (λ cs. EndsSo session.drop_end cs log_end) u.finished.doubts ends;
         left = u.finished.items ∙ ap (items_after opening) (sym placed);
       }

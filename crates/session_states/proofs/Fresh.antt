@@ -41,21 +41,23 @@ seats_fresh place schemas (c ∷ cs) =
 pub fresh_under_way : ((schemas : List SchemaData) → IsDeskRun (record { opening = schemas; order = [] })) → (session : ScriptSession) (schemas : List SchemaData) (items : Items) → ShowsItems schemas items → IsUnderWay session items (fresh_session session.clients schemas items) None
 unfolding unfinished_of desk_run
 fresh_under_way runs session schemas items shows = record {
-  acts = no_acts session.clients;
-  done = [];
-  waiting = [];
-  entries = [];
-  shows = shows;
-  desk = runs schemas;
-  calm = refl;
-  seats = seats_fresh 0 schemas session.clients;
-  begun = record {
-    all = subst (λ bs. IsPermutation bs []) (sym (none_begun 0 session.clients)) (IsPermutation-refl []);
-    numbers = refl;
-    unfinished = refl;
-    each = tt;
-    ahead = λ place number le. ap (λ acts. told_of [] acts number) (nobody_acts session.clients place);
-    first = tt;
+  in_step = record {
+    acts = no_acts session.clients;
+    done = [];
+    waiting = [];
+    entries = [];
+    shows = shows;
+    desk = runs schemas;
+    seats = seats_fresh 0 schemas session.clients;
+    begun = record {
+      all = subst (λ bs. IsPermutation bs []) (sym (none_begun 0 session.clients)) (IsPermutation-refl []);
+      numbers = refl;
+      unfinished = refl;
+      each = tt;
+      ahead = λ place number le. ap (λ acts. told_of [] acts number) (nobody_acts session.clients place);
+      first = tt;
+    };
+    finished = record { each = tt; serial = tt; items = refl; finish = refl; commits = refl; doubts = refl };
   };
-  finished = record { each = tt; whole = tt; serial = tt; items = refl; finish = refl; commits = refl };
+  faults = record { doubts = tt; marked = refl; stopped = λ k. refl };
 }

@@ -1,5 +1,6 @@
 mod Told
 mod Placed
+mod Faults
 mod Beginnings
 mod Ending
 mod Fresh

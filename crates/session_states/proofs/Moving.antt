@@ -2,11 +2,13 @@
 --     waits_first, runs_first       the first that waits is the desk's least, or the one that runs
 --     tame_under_way        a task or an event
 --     start_under_way, turn_under_way       a transaction starts, or has a turn
+--     durable_there         the durability of one that the client has stays
 use Rattle.std.proofs.Common.{◌≡◌, ◌≢◌, ℕ, ◌+◌, true, false, List, [], ◌∷◌, ◌++◌, map, slice_set, if◌then◌else◌, Option, Some, None, refl, sym, ◌∙◌, ap, subst, arith}
 use Rattle.std.specs.Prelude.{◌==◌}
 use Rattle.std.specs.List.{find, AllByRecursion}
 use Rattle.std.proofs.lemmas.List.Concat.{flat_map-append}
 use Rattle.idb_desk.specs.declared.steps.DeskStep.TheVariants as step
+use Rattle.idb_desk.specs.Durabilities.{durability_drawn}
 use Rattle.idb_desk.specs.Steps.{DeskRun, desk_run, IsDeskRun}
 use Rattle.item_changes.specs.Items.{Items}
 use Rattle.script_statements.specs.declared.script.Client.{Client}
@@ -23,11 +25,12 @@ use Rattle.client_ties.proofs.Laws.{IsSound, Grows, notes_txs, least_unfinished}
 use Rattle.legal_sessions.specs.Histories.{ShowsItems}
 use Rattle.session_states.specs.Sessions.{SeatNow, SessionNow, with_seat}
 use Rattle.session_states.specs.Telling.{BegunAt, begun_at, txs_at, shown_begun, RunningTx}
-use Rattle.session_states.specs.UnderWay.{IsSeatOf, AreSeats, IsFirstWaiting, HasBegun, IsUnderWay}
+use Rattle.session_states.specs.UnderWay.{IsSeatOf, AreSeats, IsFirstWaiting, HasBegun, IsInStep, HasFaults, IsUnderWay}
 use Rattle.session_states.specs.Moves.{Moves}
-use Rattle.session_states.proofs.Lasting.{logged_still}
-use Rattle.session_states.proofs.Told.{made_order, made_calm, IsSilent, tame_silent}
+use Rattle.session_states.proofs.Lasting.{logged_still, doubted_still, durable_still}
+use Rattle.session_states.proofs.Told.{made_order, made_faults, IsSilent, tame_silent}
 use Rattle.session_states.proofs.Placed.{SeatAt, seat_at, seats_changed}
+use Rattle.session_states.proofs.Faults.{start_calm, running_calm, faults_still}
 use Rattle.session_states.proofs.Beginnings.{some_same, equal_self, unequal, txs_more, txs_still, AreApart, first_apart}
 use Rattle.session_states.proofs.Passing.{as_started, found_first, started_apart, finished_still, begun_grows}
 use Rattle.session_states.proofs.Turning.{begun_starts, begun_turns, start_others, turn_others}
@@ -60,7 +63,7 @@ apart_silent acts number [] silent apart = tt
 apart_silent acts number (b ∷ bs) silent apart = (silent b.tx.number apart.0, apart_silent acts number bs silent apart.1)
 
 module _ (session : ScriptSession) (opening : Items) (now : SessionNow) (running : Option RunningTx) (place : ℕ) (script : Client) (before seat : SeatNow) (acts : List Act) (r : DeskRun)
-    (u : IsUnderWay session opening now running) (m : Moves session now place script before acts r seat) where
+    (u : IsInStep session opening now running) (m : Moves session now place script before acts r seat) where
   abbrev pub there : SeatAt 0 now.run u.waiting session.clients u.acts place before
   there = seat_at 0 now.run u.waiting session.clients now.seats u.acts place before u.seats m.seat_at
 
@@ -95,40 +98,50 @@ module _ (session : ScriptSession) (opening : Items) (now : SessionNow) (running
       apart : (at : ℕ) → at ≢ 0 + place → at + 1 ≢ place + 1
       apart at out e = out (let k = e in omega (arith, k))
 
+  pub durable_there : (number : ℕ) (tx : ClientTx) → tx_at before.client number ≡ Some tx → durability_drawn r.order number ≡ durability_drawn now.run.order number
+  durable_there number tx found = durable_still (place + 1) now.run r acts made_there m.run u.acts running u.done u.waiting u.begun place number tx (ap (find (is_tx number)) (sym is_there.txs) ∙ found)
+
   pub still_shown : ShowsItems r.opening opening
   still_shown = subst (λ (q : DeskRun). ShowsItems q.opening opening) (sym (made_order (place + 1) now.run r acts made_there)) u.shows
 
   -- the transactions that finished are as they were
   pub assembled : (next : Option RunningTx) (later : List BegunAt) → AreSeats 0 r later session.clients (slice_set now.seats place seat) acts_now → HasBegun r acts_now next u.done later
-      → AllByRecursion (λ (b : BegunAt). IsSilent b.tx.number acts) u.done → IsUnderWay session opening (with_seat place r seat now) next
-  assembled next later seats begun silent = record {
-    acts = acts_now;
-    done = u.done;
-    waiting = later;
-    entries = u.entries;
-    shows = still_shown;
-    desk = m.run;
-    calm = made_calm (place + 1) now.run r acts made_there u.calm;
-    seats = seats;
-    begun = begun;
-    finished = record {
-      each = finished_still now.run r u.acts place there.own acts there.own_at made_there u.done u.entries silent u.finished.each;
-      whole = u.finished.whole;
-      serial = u.finished.serial;
-      items = u.finished.items;
-      finish = u.finished.finish;
-      commits = u.finished.commits ∙ sym (logged_still (place + 1) now.run r acts made_there m.run u.acts running u.done u.waiting u.entries u.begun u.finished.each);
+      → AllByRecursion (λ (b : BegunAt). IsSilent b.tx.number acts) u.done → HasFaults r.order next u.entries → IsUnderWay session opening (with_seat place r seat now) next
+  assembled next later seats begun silent faults = record {
+    in_step = record {
+      acts = acts_now;
+      done = u.done;
+      waiting = later;
+      entries = u.entries;
+      shows = still_shown;
+      desk = m.run;
+      seats = seats;
+      begun = begun;
+      finished = record {
+        each = finished_still now.run r u.acts place there.own acts there.own_at made_there u.done u.entries silent u.finished.each;
+        serial = u.finished.serial;
+        items = u.finished.items;
+        finish = u.finished.finish;
+        commits = u.finished.commits ∙ sym (logged_still (place + 1) now.run r acts made_there m.run u.acts running u.done u.waiting u.begun u.entries u.finished.each);
+        doubts = u.finished.doubts ∙ sym (doubted_still (place + 1) now.run r acts made_there m.run u.acts running u.done u.waiting u.begun u.entries u.finished.each);
+      };
     };
+    faults = faults;
   }
 
-  pub tame_under_way : ClientStep script.blocks before.client acts seat.client → Grows before.client acts seat.client → IsUnderWay session opening (with_seat place r seat now) running
-  tame_under_way moves g =
+  pub tame_in_step : ClientStep script.blocks before.client acts seat.client → Grows before.client acts seat.client → HasFaults r.order running u.entries → IsUnderWay session opening (with_seat place r seat now) running
+  tame_in_step moves g faults =
       let draws = subst (λ n. Draws (desk_run now.run) (map (shown_tx n) (txs_begun acts)) (desk_run r)) is_there.number (g.desk now.run r m.made m.run) in
       let new = map (begun_at place) (txs_begun acts) in
       assembled running (u.waiting ++ new)
       (seats_moved (u.waiting ++ new) moves g.number (g.txs ∙ ap (λ txs. txs ++ txs_begun acts) is_there.txs ∙ sym (txs_more place u.waiting (txs_begun acts))) (λ at out. txs_still place at u.waiting (txs_begun acts) out))
       (begun_grows now.run r u.acts place there.own acts there.own_at made_there running u.done u.waiting u.begun g.tame g.fresh draws)
-      (none_silent acts u.done (λ n. tame_silent n acts g.tame))
+      (none_silent acts u.done (λ n. tame_silent n acts g.tame)) faults
+
+pub tame_under_way : (session : ScriptSession) (opening : Items) (now : SessionNow) (running : Option RunningTx) (place : ℕ) (script : Client) (before seat : SeatNow) (acts : List Act) (r : DeskRun)
+    → IsUnderWay session opening now running → Moves session now place script before acts r seat → ClientStep script.blocks before.client acts seat.client → Grows before.client acts seat.client → IsUnderWay session opening (with_seat place r seat now) running
+tame_under_way session opening now running place script before seat acts r u m moves g = tame_in_step session opening now running place script before seat acts r u.in_step m moves g
+    (faults_still now.run.order r.order running u.in_step.entries u.faults running (made_faults before.client.number now.run r acts m.made) u.faults.stopped)
 
 -- ---- a transaction starts
 others_started : (place : ℕ) (b : BegunAt) (rest : List BegunAt) → b.place ≡ place → (at : ℕ) → at ≢ place → txs_at at (as_started b ∷ rest) ≡ txs_at at (b ∷ rest)
@@ -144,10 +157,10 @@ own_here place b rest here = ap (λ t. if t then b.tx ∷ txs_at place rest else
 
 module _ (session : ScriptSession) (opening : Items) (now : SessionNow) (place : ℕ) (script : Client) (before seat : SeatNow) (r : DeskRun) (told : Told) (tx : ClientTx) (idle : before.client.tasks ≡ []) where
   -- of the first that waits
-  start_first : (u : IsUnderWay session opening now None) (b : BegunAt) (rest : List BegunAt) → u.waiting ≡ b ∷ rest → tx.started ≡ false → may_begin tx.body ≡ true
+  start_first : (u : IsInStep session opening now None) (b : BegunAt) (rest : List BegunAt) → HasFaults now.run.order None u.entries → u.waiting ≡ b ∷ rest → tx.started ≡ false → may_begin tx.body ≡ true
       → Moves session now place script before (Makes (step.Starts before.client.number b.tx.number) told ∷ []) r seat → tx_at before.client b.tx.number ≡ Some tx → seat.client ≡ with_started before.client b.tx.number
       → IsUnderWay session opening (with_seat place r seat now) (Some (record { number = b.tx.number; body = tx.body; turns = [] }))
-  start_first u b rest are waits begins m found is =
+  start_first u b rest faults are waits begins m found is =
       let acts = Makes (step.Starts before.client.number b.tx.number) told ∷ [] in
       let at = there session opening now None place script before seat acts r u m in
       let here = is_there session opening now None place script before seat acts r u m in
@@ -167,6 +180,11 @@ module _ (session : ScriptSession) (opening : Items) (now : SessionNow) (place :
       (subst (λ body. HasBegun r (slice_set u.acts place (at.own ++ acts)) (Some (record { number = b.tx.number; body = body; turns = [] })) u.done (as_started b ∷ rest)) (ap (λ (x : ClientTx). x.body) first.1)
       (begun_starts now.run r u.acts place before.client.number at.own told u.done rest b at.own_at made m.run begun first.0))
       (apart_silent acts b.tx.number u.done (start_others now.run r u.acts place before.client.number at.own told u.done rest b at.own_at made m.run begun first.0) apart.0)
+      (faults_still now.run.order r.order None u.entries faults (Some (record { number = b.tx.number; body = tx.body; turns = [] })) (made_faults (place + 1) now.run r acts made)
+      (λ k. absurd (no (sym k ∙ start_calm (place + 1) before.client.number b.tx.number now.run r told made m.run))))
+    where
+      no : true ≡ false → ⊥
+      no k = cc
 
   abbrev StartsInto : ℕ → Type 0
   StartsInto number = Moves session now place script before (Makes (step.Starts before.client.number number) told ∷ []) r seat → tx_at before.client number ≡ Some tx → seat.client ≡ with_started before.client number
@@ -174,15 +192,15 @@ module _ (session : ScriptSession) (opening : Items) (now : SessionNow) (place :
 
   pub start_under_way : ((q : DeskRun) → IsDeskRun q → IsSound (desk_run q)) → (number : ℕ) → IsUnderWay session opening now None → least_of (desk_run now.run) ≡ Some number → tx.started ≡ false → may_begin tx.body ≡ true → StartsInto number
   start_under_way sound number u least waits begins =
-      let f = waits_first sound now.run number u.waiting u.desk least u.begun.unfinished in
-      subst StartsInto f.1.1.1 (start_first u f.0 f.1.0 f.1.1.0 waits begins)
+      let f = waits_first sound now.run number u.in_step.waiting u.in_step.desk least u.in_step.begun.unfinished in
+      subst StartsInto f.1.1.1 (start_first u.in_step f.0 f.1.0 u.faults f.1.1.0 waits begins)
 
 -- ---- a transaction has a turn
 module _ (session : ScriptSession) (opening : Items) (now : SessionNow) (place : ℕ) (script : Client) (before seat : SeatNow) (r : DeskRun) (t : RunningTx) (notes : List Note) (tx : ClientTx) (idle : before.client.tasks ≡ []) where
-  turn_first : (u : IsUnderWay session opening now (Some t)) (b : BegunAt) (rest : List BegunAt) → u.waiting ≡ b ∷ rest → tx.started ≡ true
+  turn_first : (u : IsInStep session opening now (Some t)) (b : BegunAt) (rest : List BegunAt) → HasFaults now.run.order (Some t) u.entries → u.waiting ≡ b ∷ rest → tx.started ≡ true
       → Moves session now place script before (TakesTurn b.tx.number notes ∷ []) r seat → tx_at before.client b.tx.number ≡ Some tx → seat.client ≡ with_notes before.client notes
       → IsUnderWay session opening (with_seat place r seat now) (Some (record t { turns = t.turns ++ notes ∷ [] }))
-  turn_first u b rest are runs m found is =
+  turn_first u b rest faults are runs m found is =
       let acts = TakesTurn b.tx.number notes ∷ [] in
       let at = there session opening now (Some t) place script before seat acts r u m in
       let here = is_there session opening now (Some t) place script before seat acts r u m in
@@ -198,6 +216,11 @@ module _ (session : ScriptSession) (opening : Items) (now : SessionNow) (place :
       (ap (λ (c : ClientState). c.txs) is ∙ same.0 ∙ own) (λ other out. ap (txs_at other) (sym are)))
       (begun_turns now.run r u.acts place at.own t notes u.done rest b at.own_at made begun first.0)
       (apart_silent acts b.tx.number u.done (turn_others now.run r u.acts place at.own t notes u.done rest b at.own_at made begun first.0) apart.0)
+      (faults_still now.run.order r.order (Some t) u.entries faults (Some (record t { turns = t.turns ++ notes ∷ [] })) (made_faults (place + 1) now.run r acts made)
+      (λ k. absurd (no (sym k ∙ running_calm now.run.order t u.entries faults))))
+    where
+      no : true ≡ false → ⊥
+      no k = cc
 
   abbrev TurnsInto : ℕ → Type 0
   TurnsInto number = Moves session now place script before (TakesTurn number notes ∷ []) r seat → tx_at before.client number ≡ Some tx → seat.client ≡ with_notes before.client notes
@@ -205,5 +228,5 @@ module _ (session : ScriptSession) (opening : Items) (now : SessionNow) (place :
 
   pub turn_under_way : IsUnderWay session opening now (Some t) → tx.started ≡ true → TurnsInto t.number
   turn_under_way u runs =
-      let f = runs_first t u.waiting u.begun.first in
-      subst TurnsInto f.1.1.1 (turn_first u f.0 f.1.0 f.1.1.0 runs)
+      let f = runs_first t u.in_step.waiting u.in_step.begun.first in
+      subst TurnsInto f.1.1.1 (turn_first u.in_step f.0 f.1.0 u.faults f.1.1.0 runs)

@@ -1,5 +1,6 @@
 -- The clients of a session by their places.
 --     seat_at               the client of a place
+--     all_stay              the desk has moved, and no client
 --     seats_changed         one client has moved, and the desk
 use Rattle.std.proofs.Common.{◌≡◌, ◌≢◌, ℕ, zero, suc, ◌+◌, ◌≤◌, List, [], ◌∷◌, slice_get, slice_set, Some, refl, sym, ◌∙◌, subst, arith}
 use Rattle.idb_desk.specs.Steps.{DeskRun}
@@ -45,7 +46,7 @@ seat_at first r waiting (c ∷ cs) (s ∷ ss) (a ∷ more) (suc place) seat are 
 abbrev pub OthersStay : DeskRun → List BegunAt → DeskRun → List BegunAt → ℕ → Type 0
 OthersStay r waiting end later place = (script : Client) (at : ℕ) (seat : SeatNow) (acts : List Act) → at ≢ place → IsSeatOf script at r waiting seat acts → IsSeatOf script at end later seat acts
 
-all_stay : (first : ℕ) (r end : DeskRun) (waiting later : List BegunAt) (scripts : List Client) (seats : List SeatNow) (acts : List (List Act))
+pub all_stay : (first : ℕ) (r end : DeskRun) (waiting later : List BegunAt) (scripts : List Client) (seats : List SeatNow) (acts : List (List Act))
     → ((script : Client) (at : ℕ) (seat : SeatNow) (own : List Act) → first ≤ at → IsSeatOf script at r waiting seat own → IsSeatOf script at end later seat own)
     → AreSeats first r waiting scripts seats acts → AreSeats first end later scripts seats acts
 all_stay first r end waiting later [] [] [] stays are = tt

@@ -1,30 +1,22 @@
 -- What a session under way tells of its clients.
 --     seat_tied             each client's transactions are those of the desk that it made
 --     least_ready           the least unfinished transaction is a client's, and may start
-use Rattle.std.proofs.Common.{◌≡◌, ℕ, zero, suc, ◌+◌, ◌<◌, Bool, true, false, not, ◌&&◌, ◌||◌, List, [], ◌∷◌, ◌++◌, map, filter, length, slice_get, if◌then◌else◌, Option, Some, None, inl, inr, refl, sym, ◌∙◌, ap, subst, arith}
+use Rattle.std.proofs.Common.{◌≡◌, ℕ, zero, suc, ◌+◌, ◌<◌, true, false, not, ◌&&◌, List, [], ◌∷◌, ◌++◌, map, filter, length, slice_get, if◌then◌else◌, Option, Some, None, inl, inr, refl, sym, ◌∙◌, ap, subst, arith}
 use Rattle.std.specs.Prelude.{◌==◌}
-use Rattle.std.specs.List.{find, list_any, AllByRecursion}
+use Rattle.std.specs.List.{find, AllByRecursion}
 use Rattle.std.specs.List.Sorted.{IsPermutation}
 use Rattle.std.proofs.lemmas.Bool.{cases_Bool}
 use Rattle.std.proofs.lemmas.Bool.Decides.{eqb_tells}
 use Rattle.std.proofs.lemmas.List.Elements.{All-from_recursion, recursion_from_All}
 use Rattle.std.proofs.lemmas.List.Sorted.{All-permutation}
-use Rattle.idb_schema.specs.Schemas.{SchemaData}
-use Rattle.name_queues.specs.declared.events.ClientEvent.{ClientEvent}
-use Rattle.name_queues.specs.declared.events.ClientEvent.TheVariants as event
-use Rattle.name_queues.specs.declared.ids.ConnId.{ConnId}
-use Rattle.connection_queues.specs.Machine.{schema_of}
 use Rattle.scope_desk.specs.Starts.{may_start}
 use Rattle.scope_desk.specs.declared.unfinished.MayStart.TheVariants.{Go}
-use Rattle.idb_keys.specs.declared.names.Mode.{Mode}
 use Rattle.idb_desk.specs.declared.stands.DrawnTx.{DrawnTx}
-use Rattle.idb_desk.specs.declared.stands.TxKind.{TxKind}
-use Rattle.idb_desk.specs.declared.stands.TxKind.TheVariants as kind
 use Rattle.idb_desk.specs.declared.steps.DeskStep.{DeskStep}
 use Rattle.idb_desk.specs.declared.steps.DeskStep.TheVariants as step
-use Rattle.idb_desk.specs.Desks.{DeskState, DeskBoard, name_asked_by, drawn_at}
-use Rattle.idb_desk.specs.Refusals.{is_allowed, is_to_start, is_created_stage, is_committed, is_go}
-use Rattle.idb_desk.specs.Steps.{after, after_all, after_take, after_created, after_left, drawn_whole, event_for, new_desk, DeskRun, desk_run, IsDeskRun}
+use Rattle.idb_desk.specs.Desks.{DeskState, drawn_at}
+use Rattle.idb_desk.specs.Refusals.{is_allowed, is_to_start, is_created_stage, is_go}
+use Rattle.idb_desk.specs.Steps.{DeskRun, desk_run, IsDeskRun}
 use Rattle.item_changes.specs.Items.{Items}
 use Rattle.script_statements.specs.declared.script.Client.{Client}
 use Rattle.script_statements.specs.declared.script.ScriptSession.{ScriptSession}
@@ -33,10 +25,9 @@ use Rattle.client_machine.specs.ClientStates.{ClientTx, is_tx}
 use Rattle.client_ties.specs.Unfinished.{unfinished_of, is_made_by, least_of}
 use Rattle.client_ties.specs.Ties.{shown_tx, IsTied}
 use Rattle.client_ties.proofs.Laws.{IsSound, first_drawn}
-use Rattle.legal_sessions.specs.Legal.{is_fault}
 use Rattle.session_states.specs.Sessions.{SeatNow, SessionNow}
 use Rattle.session_states.specs.Telling.{BegunAt, begun_at, begun_from, txs_at, shown_begun, as_begun, RunningTx}
-use Rattle.session_states.specs.UnderWay.{IsWaiting, IsSeatOf, AreSeats, IsUnderWay}
+use Rattle.session_states.specs.UnderWay.{IsWaiting, IsSeatOf, AreSeats, IsInStep, IsUnderWay}
 use Rattle.session_states.specs.Moves.{HasReady}
 use Rattle.session_states.proofs.Placed.{seat_at}
 use Rattle.session_states.proofs.Beginnings.{some_same, equal, equal_self, unequal}
@@ -61,13 +52,13 @@ own_begun place (b ∷ bs) = elim (cases_Bool (b.place == place)) [
       ∙ sym (ap (λ t. map (shown_tx (place + 1)) (if t then b.tx ∷ txs_at place bs else txs_at place bs)) out)
 ]
 
-seat_here : (session : ScriptSession) (opening : Items) (now : SessionNow) (running : Option RunningTx) (place : ℕ) (seat : SeatNow) (u : IsUnderWay session opening now running) → slice_get now.seats place ≡ Some seat
+seat_here : (session : ScriptSession) (opening : Items) (now : SessionNow) (running : Option RunningTx) (place : ℕ) (seat : SeatNow) (u : IsInStep session opening now running) → slice_get now.seats place ≡ Some seat
     → (script : Client) × ((own : List Act) × ((slice_get session.clients place ≡ Some script) × (IsSeatOf script place now.run u.waiting seat own)))
 seat_here session opening now running place seat u at =
     let h = seat_at 0 now.run u.waiting session.clients now.seats u.acts place seat u.seats at in
     (h.script, (h.own, (h.script_at, subst (λ n. IsSeatOf h.script n now.run u.waiting seat h.own) (let k : 0 + place ≡ place = omega arith in k) h.is)))
 
-pub seat_tied : (session : ScriptSession) (opening : Items) (now : SessionNow) (running : Option RunningTx) (place : ℕ) (seat : SeatNow) → IsUnderWay session opening now running → slice_get now.seats place ≡ Some seat
+pub seat_tied : (session : ScriptSession) (opening : Items) (now : SessionNow) (running : Option RunningTx) (place : ℕ) (seat : SeatNow) → IsInStep session opening now running → slice_get now.seats place ≡ Some seat
     → IsTied (desk_run now.run) seat.client × (seat.client.number ≡ place + 1)
 seat_tied session opening now running place seat u at =
     let h = seat_here session opening now running place seat u at in
@@ -78,53 +69,6 @@ seat_tied session opening now running place seat u at =
       },
       is.number,
     )
-
--- ---- no fault
-whole_calm : (b : DeskBoard) (who : ConnId) (k : TxKind) (name : Option (List ℕ)) → (drawn_whole b who k name).is_faulted ≡ b.is_faulted
-whole_calm b who k None = refl
-whole_calm b who k (Some name) = refl
-
-take_calm : (d : DeskState) (client : ℕ) (o : Option ClientEvent) → (after_take d client o).board.is_faulted ≡ d.board.is_faulted
-take_calm d client None = refl
-take_calm d client (Some (event.Upgrade who old new)) = whole_calm d.board who (kind.Upgrade new) (name_asked_by d.board.clients who)
-take_calm d client (Some (event.Blocked who old new)) = refl
-take_calm d client (Some (event.Success who version)) = refl
-take_calm d client (Some (event.Error who name)) = refl
-take_calm d client (Some (event.VersionChange who old new)) = refl
-take_calm d client (Some (event.Closed who)) = refl
-take_calm d client (Some (event.DeleteReady who old)) = whole_calm d.board who kind.Deletion (name_asked_by d.board.clients who)
-
-create_calm : (d : DeskState) (who : ConnId) (scope : List (List ℕ)) (m : Mode) (name : Option (List ℕ)) (schema : Option SchemaData) → (after_created d who scope m name schema).board.is_faulted ≡ d.board.is_faulted
-create_calm d who scope m None schema = refl
-create_calm d who scope m (Some name) None = refl
-create_calm d who scope m (Some name) (Some schema) = refl
-
-left_calm : (d : DeskState) (number : ℕ) (committed : Bool) (kept : Option SchemaData) (o : Option DrawnTx) → (after_left d number committed kept o).board.is_faulted ≡ d.board.is_faulted
-left_calm d number committed kept None = refl
-left_calm d number committed kept (Some t) = refl
-
-step_calm : (d : DeskState) (t : DeskStep) → is_fault t ≡ false → (after d t).board.is_faulted ≡ d.board.is_faulted
-unfolding after
-step_calm d (step.Asks who name want) out = refl
-step_calm d (step.Takes client) out = take_calm d client (event_for d client)
-step_calm d (step.Handles client) out = refl
-step_calm d (step.Closes who) out = refl
-step_calm d (step.Creates number who scope m durability) out = create_calm d who scope m (name_asked_by d.board.clients who) (schema_of d.queues who)
-step_calm d (step.Starts client number) out = refl
-step_calm d (step.Leaves client number ended kept) out = left_calm d number (is_committed ended) kept (drawn_at d.board.drawn number)
-step_calm d step.Faults out = cc
-
-neither : (a b : Bool) → (a || b) ≡ false → (a ≡ false) × (b ≡ false)
-neither true b e = cc
-neither false b e = (refl, e)
-
-all_calm : (d : DeskState) (ts : List DeskStep) → list_any is_fault ts ≡ false → (after_all d ts).board.is_faulted ≡ d.board.is_faulted
-all_calm d [] calm = refl
-all_calm d (t ∷ ts) calm = let h = neither (is_fault t) (list_any is_fault ts) calm in all_calm (after d t) ts h.1 ∙ step_calm d t h.0
-
-desk_calm : (r : DeskRun) → list_any is_fault r.order ≡ false → (desk_run r).board.is_faulted ≡ false
-unfolding desk_run
-desk_calm r calm = all_calm (new_desk r.opening) r.order calm
 
 -- ---- places
 places_below : (first : ℕ) (acts : List (List Act)) → AllByRecursion (λ (b : BegunAt). b.place < first + length acts) (begun_from first acts)
@@ -177,7 +121,8 @@ first_seated acts done waiting b rest are all =
 
 pub least_ready : ((q : DeskRun) → IsDeskRun q → IsSound (desk_run q)) → (session : ScriptSession) (opening : Items) (now : SessionNow) (number : ℕ) (t : DrawnTx) → IsUnderWay session opening now None → least_of (desk_run now.run) ≡ Some number
     → may_start (desk_run now.run).board.scopes number ≡ Go → drawn_at (desk_run now.run).board.drawn number ≡ Some t → HasReady session now number t
-least_ready sound session opening now number t u least go at =
+least_ready sound session opening now number t way least go at =
+    let u = way.in_step in
     let f = waits_first sound now.run number u.waiting u.desk least u.begun.unfinished in
     let b = f.0 in
     let drawn = first_drawn (desk_run now.run) (shown_begun b) (map shown_begun f.1.0) (u.begun.unfinished ∙ ap (map shown_begun) f.1.1.0) in
@@ -202,5 +147,5 @@ least_ready sound session opening now number t u least go at =
       found = ap (find (is_tx number)) (is.txs ∙ ap (txs_at b.place) f.1.1.0 ∙ own_here b.place b f.1.0 refl)
           ∙ ap (λ x. if x then Some b.tx else find (is_tx number) (txs_at b.place f.1.0)) (ap (λ n. n == number) f.1.1.1 ∙ equal_self number);
       waits = waits;
-      allowed = may_begin_there (desk_run now.run) found.0.client.number number t (desk_calm now.run u.calm) at (own ∙ sym number_is) created go;
+      allowed = λ calm. may_begin_there (desk_run now.run) found.0.client.number number t calm at (own ∙ sym number_is) created go;
     }

@@ -1,6 +1,6 @@
 -- What more acts tell of a transaction.
 --     steps_of, made_order  the steps among acts;  a run after they were made
---     made_calm             none of them is a fault
+--     made_faults           none of them is a fault
 --     says, IsSilent        an act tells something of the transaction of this number
 --     tame_silent           tasks and events tell nothing
 --     told_on, told_off     behind its client's acts, and behind another client's, what is silent tells nothing
@@ -56,21 +56,17 @@ owned_calm client (step.Starts starter number) e = refl
 owned_calm client (step.Leaves leaver number ended kept) e = refl
 owned_calm client step.Faults e = cc
 
-any_end : {X : Type 0} (p : X → Bool) (xs : List X) (x : X) → list_any p xs ≡ false → p x ≡ false → list_any p (xs ++ x ∷ []) ≡ false
-any_end p [] x none out = ap (λ b. b || false) out
-any_end p (y ∷ ys) x none out = let h = neither (p y) (list_any p ys) none in ap (λ b. b || list_any p (ys ++ x ∷ [])) h.0 ∙ any_end p ys x h.1 out
-  where
-    neither : (a b : Bool) → (a || b) ≡ false → (a ≡ false) × (b ≡ false)
-    neither true b e = cc
-    neither false b e = (refl, e)
+pub any_both : {X : Type 0} (p : X → Bool) (xs ys : List X) → list_any p ys ≡ false → list_any p (xs ++ ys) ≡ list_any p xs
+any_both p [] ys none = none
+any_both p (x ∷ xs) ys none = ap (λ b. p x || b) (any_both p xs ys none)
 
-pub made_calm : (client : ℕ) (r last : DeskRun) (acts : List Act) → MadeAtOnce client r acts last → list_any is_fault r.order ≡ false → list_any is_fault last.order ≡ false
-made_calm client r last [] m calm = ap (λ (q : DeskRun). list_any is_fault q.order) m ∙ calm
-made_calm client r last (Makes t told ∷ acts) m calm = made_calm client (with_step r t) last acts m.1.1 (any_end is_fault r.order t calm (owned_calm client t m.0))
-made_calm client r last (Noted n ∷ acts) m calm = made_calm client r last acts m calm
-made_calm client r last (Fails t name ∷ acts) m calm = made_calm client r last acts m.1.1 calm
-made_calm client r last (Begins tx ∷ acts) m calm = made_calm client r last acts m calm
-made_calm client r last (TakesTurn number notes ∷ acts) m calm = made_calm client r last acts m calm
+pub made_faults : (client : ℕ) (r last : DeskRun) (acts : List Act) → MadeAtOnce client r acts last → list_any is_fault last.order ≡ list_any is_fault r.order
+made_faults client r last [] m = ap (λ (q : DeskRun). list_any is_fault q.order) m
+made_faults client r last (Makes t told ∷ acts) m = made_faults client (with_step r t) last acts m.1.1 ∙ any_both is_fault r.order (t ∷ []) (ap (λ b. b || false) (owned_calm client t m.0))
+made_faults client r last (Noted n ∷ acts) m = made_faults client r last acts m
+made_faults client r last (Fails t name ∷ acts) m = made_faults client r last acts m.1.1
+made_faults client r last (Begins tx ∷ acts) m = made_faults client r last acts m
+made_faults client r last (TakesTurn number notes ∷ acts) m = made_faults client r last acts m
 
 -- ---- acts that tell nothing
 abbrev pub step_says : ℕ → DeskStep → Bool
@@ -124,10 +120,6 @@ no_start number (step.Creates drawn who scope m durability) e = refl
 no_start number (step.Starts client started) e = e
 no_start number (step.Leaves client left ended kept) e = refl
 no_start number step.Faults e = refl
-
-pub any_both : {X : Type 0} (p : X → Bool) (xs ys : List X) → list_any p ys ≡ false → list_any p (xs ++ ys) ≡ list_any p xs
-any_both p [] ys none = none
-any_both p (x ∷ xs) ys none = ap (λ b. p x || b) (any_both p xs ys none)
 
 silent_starts : (number : ℕ) (acts : List Act) → IsSilent number acts → list_any (is_start_of number) (steps_of acts) ≡ false
 silent_starts number [] all = refl

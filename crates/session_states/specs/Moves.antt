@@ -1,7 +1,8 @@
 -- A client of a session that moves.
 --     Moves                 the client of a place did these acts: the desk made their steps at once, and it noted what they note
---     entry_ran, entry_dropped      what became of the transaction that ran;  of one that its body aborted
---     HasReady              the least unfinished transaction is one of a client's, and may start
+--     entry_ran, entry_dropped      what became of the transaction that ran;  of one that never started
+--     entry_by_host         of one that never started, which the host ended since it is faulted
+--     HasReady              the least unfinished transaction is one of a client's, and may start unless the host is faulted
 use Rattle.std.specs.Prelude.{◌≡◌, ℕ, ◌+◌, true, false, List, [], ◌++◌, slice_get, Option, Some, None}
 use Rattle.idb_schema.specs.Schemas.{SchemaData}
 use Rattle.idb_calls.specs.Deltas.{DeltaTree}
@@ -10,7 +11,7 @@ use Rattle.idb_desk.specs.declared.stands.DrawnTx.{DrawnTx}
 use Rattle.idb_desk.specs.declared.steps.DeskStep.TheVariants as step
 use Rattle.idb_desk.specs.Refusals.{is_allowed}
 use Rattle.idb_desk.specs.Steps.{DeskRun, desk_run, IsDeskRun}
-use Rattle.serial_order.specs.FinishEntries.{TxBody, FinishEntry}
+use Rattle.client_machine.specs.FinishEntries.{TxBody, FinishEntry}
 use Rattle.script_statements.specs.declared.script.Client.{Client}
 use Rattle.script_statements.specs.declared.script.ScriptSession.{ScriptSession}
 use Rattle.script_runs.specs.declared.notes.Note.{Note}
@@ -29,6 +30,10 @@ entry_ran t changes kept outcome = record { number = t.number; body = t.body; st
 -- one that never started
 abbrev pub entry_dropped : ℕ → TxBody Script → List (List Note) → Outcome → FinishEntry Script Note
 entry_dropped number body turns outcome = record { number = number; body = body; started = false; turns = turns; changes = []; kept = None; by_host = false; outcome = outcome }
+
+-- one that the host ended
+abbrev pub entry_by_host : ℕ → TxBody Script → List (List Note) → Outcome → FinishEntry Script Note
+entry_by_host number body turns outcome = record (entry_dropped number body turns outcome) { by_host = true }
 
 -- ---- a client
 -- the client has these blocks, and was so before
@@ -50,4 +55,4 @@ pub record HasReady (session : ScriptSession) (now : SessionNow) (number : ℕ) 
   pub client_number : seat.client.number ≡ place + 1
   pub found : tx_at seat.client number ≡ Some tx
   pub waits : tx.started ≡ false
-  pub allowed : is_allowed (desk_run now.run) (step.Starts seat.client.number number) ≡ true
+  pub allowed : (desk_run now.run).board.is_faulted ≡ false → is_allowed (desk_run now.run) (step.Starts seat.client.number number) ≡ true

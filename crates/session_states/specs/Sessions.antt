@@ -1,34 +1,36 @@
 -- What is held of a session while it runs.
 --     SeatNow               a client, and what it noted so far
 --     SessionNow            the run of the desk, the clients, the numbers of the transactions that finished, those that committed
---                           and may write, as a log has them, and the databases
+--                           and may write, as a log has them, those in doubt, as it would have them, and the databases
 --     commit_numbers        the numbers of these
 --     fresh_session         before any step
 --     with_seat             the desk and one client have moved
 --     with_finished         a transaction is finished
+--     with_fault            the host is faulted
 --     IsAtEnd               nobody has anything left to do
---     report_now            what the session reports then, where the host isn't faulted
+--     report_now            what the session reports then, where its log ended so
 use Rattle.std.specs.Prelude.{◌≡◌, ℕ, ◌+◌, List, [], ◌∷◌, ◌++◌, map, slice_set, None}
 use Rattle.std.specs.List.{AllByRecursion}
 use Rattle.std.specs.FinMap as finite
 use Rattle.idb_schema.specs.Schemas.{SchemaData}
 use Rattle.name_queues.specs.Mails.{events_of}
-use Rattle.idb_desk.specs.Steps.{DeskRun, desk_run}
+use Rattle.idb_desk.specs.declared.steps.DeskStep.TheVariants as step
+use Rattle.idb_desk.specs.Steps.{DeskRun, desk_run, with_step}
 use Rattle.idb_desk.specs.Tokens.{token_of}
 use Rattle.idb_desk.specs.Waiting.{pending_of}
 use Rattle.item_changes.specs.Items.{Items}
 use Rattle.item_changes.specs.Effects.{applied_all}
 use Rattle.log_history.specs.Batching.{Commit}
+use Rattle.log_history.specs.Kept.{End}
 use Rattle.report_lines.specs.declared.reports.Report.{Report}
-use Rattle.serial_order.specs.FinishEntries.{FinishEntry, changes_kept}
+use Rattle.client_machine.specs.FinishEntries.{FinishEntry, changes_kept}
 use Rattle.script_statements.specs.declared.script.Client.{Client}
-use Rattle.script_statements.specs.declared.script.ScriptSession.{ScriptSession}
 use Rattle.script_runs.specs.declared.notes.Note.{Note}
 use Rattle.script_handlers.specs.Handling.{Script}
 use Rattle.client_machine.specs.Acts.{written_from}
 use Rattle.client_machine.specs.ClientStates.{ClientState, fresh_client}
 use Rattle.client_ties.specs.Unfinished.{least_of}
-use Rattle.legal_sessions.specs.Legal.{has_of, records_logged, commits_at, own_end}
+use Rattle.legal_sessions.specs.Legal.{has_of, records_logged, records_in_doubt, commits_at, report_end}
 
 pub record SeatNow : Type 0 where
   pub client : ClientState
@@ -39,6 +41,7 @@ pub record SessionNow : Type 0 where
   pub seats : List SeatNow
   pub finish : List ℕ
   pub commits : List Commit
+  pub doubts : List Commit
   pub items : Items
 
 -- ---- the beginning
@@ -53,6 +56,7 @@ fresh_session clients schemas items = record {
   seats = fresh_seats 1 clients;
   finish = [];
   commits = [];
+  doubts = [];
   items = items;
 }
 
@@ -65,8 +69,13 @@ abbrev pub with_finished : FinishEntry Script Note → SessionNow → SessionNow
 with_finished e now = record now {
   finish = now.finish ++ e.number ∷ [];
   commits = now.commits ++ commits_at now.run.order (records_logged (e ∷ []));
+  doubts = now.doubts ++ commits_at now.run.order (records_in_doubt (e ∷ []));
   items = applied_all now.items (changes_kept e);
 }
+
+-- it is nobody's step
+abbrev pub with_fault : SessionNow → SessionNow
+with_fault now = record now { run = with_step now.run step.Faults }
 
 abbrev pub commit_numbers : List Commit → List ℕ
 commit_numbers commits = map (λ (c : Commit). c.logged.number) commits
@@ -77,8 +86,8 @@ pub record IsAtEnd (now : SessionNow) : Type 0 where
   pub no_event : AllByRecursion (λ (s : SeatNow). events_of (desk_run now.run).queues.mails s.client.number ≡ []) now.seats
   pub no_transaction : least_of (desk_run now.run) ≡ None
 
-abbrev pub report_now : ScriptSession → ℕ → Items → SessionNow → Report
-report_now session number opening now = record {
+abbrev pub report_now : ℕ → Items → SessionNow → End → Report
+report_now number opening now log_end = record {
   session = number;
   opening = map has_of (finite.entries opening);
   clients = map (λ (s : SeatNow). written_from 0 s.notes) now.seats;
@@ -86,5 +95,5 @@ report_now session number opening now = record {
   finish = now.finish;
   commits = commit_numbers now.commits;
   pending = pending_of (desk_run now.run);
-  end = own_end session.drop_end;
+  end = report_end log_end;
 }

@@ -13,7 +13,7 @@ use Rattle.std.specs.Prelude.{ℕ, ◌+◌, Bool, false, ◌==◌, List, [], ◌
 use Rattle.idb_schema.specs.Schemas.{SchemaData}
 use Rattle.idb_calls.specs.declared.traces.Outcome.{Outcome}
 use Rattle.idb_desk.specs.declared.steps.DeskStep.{DeskStep}
-use Rattle.serial_order.specs.FinishEntries.{TxBody, FinishEntry}
+use Rattle.client_machine.specs.FinishEntries.{TxBody, FinishEntry}
 use Rattle.script_runs.specs.declared.notes.Note.{Note}
 use Rattle.script_handlers.specs.Handling.{Script}
 use Rattle.client_machine.specs.Acts.{Act, txs_begun, turns_of}

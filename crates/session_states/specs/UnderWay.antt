@@ -6,15 +6,18 @@
 --     HasBegun              the transactions that began: those that finished, and those that wait
 --     IsFinishedAs, AreFinishedAs   what became of those that finished is told by the steps and acts
 --     HasFinished           and is what their runs one by one give
+--     IsInStep              the clients, the desk, and what became of the transactions, whether or not the host is faulted
+--     is_doubted            a transaction ended in doubt
+--     HasFaults             the host is faulted exactly where one did, and nothing runs then
 --     IsUnderWay            all of it
-use Rattle.std.specs.Prelude.{◌≡◌, ℕ, ◌+◌, ◌≤◌, false, List, [], ◌∷◌, ◌++◌, map, Option, Some, None, ⊤}
+use Rattle.std.specs.Prelude.{◌≡◌, ℕ, ◌+◌, ◌≤◌, Bool, true, List, [], ◌∷◌, ◌++◌, map, Option, Some, None, ⊤}
 use Rattle.std.specs.List.{list_any, AllByRecursion}
 use Rattle.std.specs.List.Sorted.{IsPermutation}
 use Rattle.idb_desk.specs.declared.steps.DeskStep.{DeskStep}
 use Rattle.idb_desk.specs.Steps.{DeskRun, desk_run, IsDeskRun}
 use Rattle.item_changes.specs.Items.{Items}
-use Rattle.serial_order.specs.FinishEntries.{FinishEntry}
-use Rattle.serial_order.specs.SerialRuns.{IsSerial, items_after}
+use Rattle.client_machine.specs.FinishEntries.{FinishEntry}
+use Rattle.client_machine.specs.SerialRuns.{IsSerial, items_after}
 use Rattle.script_statements.specs.declared.script.Client.{Client}
 use Rattle.script_statements.specs.declared.script.ScriptSession.{ScriptSession}
 use Rattle.script_runs.specs.declared.notes.Note.{Note}
@@ -26,7 +29,7 @@ use Rattle.client_machine.specs.ClientSteps.{ClientRuns}
 use Rattle.client_ties.specs.Unfinished.{unfinished_of, AreDrawn}
 use Rattle.legal_sessions.specs.Histories.{ShowsItems}
 use Rattle.legal_sessions.specs.SerialResults.{number_of_entry}
-use Rattle.legal_sessions.specs.Legal.{is_fault, is_in_doubt, records_logged, commits_at}
+use Rattle.legal_sessions.specs.Legal.{is_fault, is_in_doubt, DoubtsFit, records_logged, records_in_doubt, commits_at}
 use Rattle.session_states.specs.Sessions.{SeatNow, SessionNow}
 use Rattle.session_states.specs.Telling.{told_of, nothing_told, told_by_entry, BegunAt, begun_from, acts_at, txs_at, shown_begun, as_begun, RunningTx, is_running, body_so_far, told_so_far}
 
@@ -83,27 +86,37 @@ AreFinishedAs order acts (b ∷ bs) (e ∷ es) = IsFinishedAs order acts b e × 
 AreFinishedAs order acts [] (e ∷ es) = ⊥
 AreFinishedAs order acts (b ∷ bs) [] = ⊥
 
--- none in doubt, and none that the host ended
-abbrev pub IsWhole : FinishEntry Script Note → Type 0
-IsWhole e = (is_in_doubt e.outcome ≡ false) × (e.by_host ≡ false)
-
 pub record HasFinished (opening : Items) (now : SessionNow) (acts : List (List Act)) (done : List BegunAt) (entries : List (FinishEntry Script Note)) : Type 0 where
   pub each : AreFinishedAs now.run.order acts done entries
-  pub whole : AllByRecursion IsWhole entries
   pub serial : IsSerial ScriptReacts ScriptWrites opening entries
   pub items : now.items ≡ items_after opening entries
   pub finish : now.finish ≡ map number_of_entry entries
   pub commits : now.commits ≡ commits_at now.run.order (records_logged entries)
+  pub doubts : now.doubts ≡ commits_at now.run.order (records_in_doubt entries)
 
 -- ---- the session
-pub record IsUnderWay (session : ScriptSession) (opening : Items) (now : SessionNow) (running : Option RunningTx) : Type 0 where
+-- it stays so by each step of the desk with the acts that belong to it, the one that faults the host among them
+pub record IsInStep (session : ScriptSession) (opening : Items) (now : SessionNow) (running : Option RunningTx) : Type 0 where
   pub acts : List (List Act)
   pub done : List BegunAt
   pub waiting : List BegunAt
   pub entries : List (FinishEntry Script Note)
   pub shows : ShowsItems now.run.opening opening
   pub desk : IsDeskRun now.run
-  pub calm : list_any is_fault now.run.order ≡ false
   pub seats : AreSeats 0 now.run waiting session.clients now.seats acts
   pub begun : HasBegun now.run acts running done waiting
   pub finished : HasFinished opening now acts done entries
+
+-- ---- faults
+abbrev pub is_doubted : FinishEntry Script Note → Bool
+is_doubted e = is_in_doubt e.outcome
+
+-- those behind the one in doubt are aborted, and the host ends none before it
+pub record HasFaults (order : List DeskStep) (running : Option RunningTx) (entries : List (FinishEntry Script Note)) : Type 0 where
+  pub doubts : DoubtsFit entries
+  pub marked : list_any is_fault order ≡ list_any is_doubted entries
+  pub stopped : list_any is_fault order ≡ true → running ≡ None
+
+pub record IsUnderWay (session : ScriptSession) (opening : Items) (now : SessionNow) (running : Option RunningTx) : Type 0 where
+  pub in_step : IsInStep session opening now running
+  pub faults : HasFaults now.run.order running in_step.entries

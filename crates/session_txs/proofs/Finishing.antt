@@ -1,11 +1,12 @@
--- A transaction that has ended, and the databases that it leaves.
---     part_again            a database of its version and its stores
---     lasts_with            where it has no version it has no stores
---     made_by_run, version_by_run, within_by_run        the laws of a run
---     commits_so, aborts_with       it finishes as it committed, or as it aborted
---     logged_finish         what it changed can be logged
---     finish_committed, finish_aborted      so by the end that is kept;  commit_lasts, abort_lasts: what goes back lasts
-use Rattle.std.proofs.Common.{◌≡◌, ◌≤◌, ℕ, length, List, [], ◌∷◌, ◌++◌, Option, Some, None, refl, sym, ◌∙◌, ap, subst}
+-- A transaction that has ended, and the part of the databases that it had.
+--     goes_on, state_begun, within_as       the laws of a run
+--     ran_as, doubted_as    it ran on its part;  and so it did where its commit met a fault
+--     left_as               what it leaves of its part
+--     closes, doubts, leaves, logged        so by the end that is kept
+--     lasts_with            a database that doesn't exist has no stores
+--     sound_with            with its part, as it left it, the databases are sound
+--     kept_so, taken_back_so        its part stands again, with its changes or without them
+use Rattle.std.proofs.Common.{◌≡◌, ◌≤◌, ℕ, length, List, [], ◌∷◌, ◌++◌, Option, Some, None, option_map, refl, sym, ◌∙◌, ap, subst}
 use Rattle.std.specs.Prelude.{Bool, true, false, if◌then◌else◌}
 use Rattle.std.specs.FinMap as finite
 use Rattle.std.proofs.lemmas.Grind.{flat_map-append}
@@ -15,7 +16,6 @@ use Rattle.idb_calls.specs.declared.traces.TheConstants.{GREATEST_DELTA_COUNT}
 use Rattle.loggable_changes.specs.Logging.{AreLoggable}
 use Rattle.idb_keys.specs.declared.names.ErrorName.{ErrorName}
 use Rattle.idb_keys.specs.declared.names.Mode.{Mode}
-use Rattle.idb_keys.specs.declared.names.Mode.TheVariants as mode
 use Rattle.idb_schema.specs.Schemas.{SchemaData}
 use Rattle.idb_calls.specs.Deltas.{DeltaTree}
 use Rattle.idb_calls.specs.declared.traces.Outcome.{Outcome}
@@ -23,46 +23,23 @@ use Rattle.idb_calls.specs.declared.traces.Outcome.TheVariants.{Committed, Abort
 use Rattle.item_changes.specs.Items.{Name, Database, Items, stores_in}
 use Rattle.item_changes.specs.Effects.{made_all, applied_all}
 use Rattle.item_changes.specs.Scopes.{Scope, AllWithin, part_of}
-use Rattle.idb_databases.specs.Stores.{Stores}
+use Rattle.idb_databases.specs.Stores.{Stores, AreStores}
 use Rattle.request_lists.specs.Fronts.{new_front}
 use Rattle.request_lists.specs.Placing.{Becomes, after_rest, after_throw}
-use Rattle.list_machine.specs.States.{State, fresh_state, opening_changes}
+use Rattle.list_machine.specs.States.{State, fresh_state}
 use Rattle.list_machine.specs.Machine.{Reacts, Writes, GoesOn, Begins, Goes}
 use Rattle.machine_laws.specs.Keeping.{IsState}
-use Rattle.live_stores.specs.Live.{database_at}
+use Rattle.live_stores.specs.Live.{LiveData, database_at}
 use Rattle.serial_order.specs.FinishEntries.{ScriptedBody, Scripted, FinishEntry, front_left, scope_of_entry, changes_kept}
-use Rattle.serial_order.specs.SerialRuns.{GoesBy, Fresh, Further, joined_lines, schema_kept, ScriptedRun, RunsAlone}
+use Rattle.serial_order.specs.SerialRuns.{GoesBy, Fresh, Further, joined_lines, schema_kept, ScriptedRun, RunsOut, RunsAlone}
 use Rattle.serial_order.specs.NumberOrder.{FitsWhole}
 use Rattle.script_runs.specs.declared.notes.Note.{Note}
 use Rattle.script_handlers.specs.declared.handlers.ScriptHandler.{ScriptHandler}
 use Rattle.script_handlers.specs.Handling.{Script, ScriptReacts, ScriptWrites}
-use Rattle.session_databases.specs.Parts.{scope_of, without_part, with_part}
-use Rattle.session_txs.specs.Running.{SessionTxState, scope_of_scripted, LeavesItsPart, RanAndLeft}
-use Rattle.session_txs.specs.Keeping.{version_there, version_after, begun_state, state_now, CanLog, IsRunning}
+use Rattle.session_databases.specs.Parts.{scope_of, without_part, with_part, AreSoundDatabases}
+use Rattle.session_txs.specs.Running.{SessionTxState, PartState, scope_of_scripted, LeavesItsPart, RanSo, DoubtedRun}
+use Rattle.session_txs.specs.Keeping.{begun_state, state_now, changes_told, schema_kept_by, CanLog, IsRunning, IsLeft}
 use Rattle.session_txs.proofs.Openings.{mode_of_body, left_mode}
-use Rattle.session_txs.proofs.Versions.{goes_version}
-
--- ---- a database of its version and its stores
-pub part_again : (there : Option Database) → database_at (version_there there) (stores_in there) ≡ there
-part_again None = refl
-part_again (Some d) = refl
-
-no_stores : (there : Option Database) → version_there there ≡ None → stores_in there ≡ finite.empty
-no_stores None e = refl
-no_stores (Some d) e = cc
-
--- with what was given of them
-pub lasts_with : (there : Option Database) (version : Option ℕ) (stores : Stores) → version ≡ version_there there → stores ≡ stores_in there → version ≡ None → stores ≡ finite.empty
-lasts_with there version stores v s none = s ∙ no_stores there (sym v ∙ none)
-
-stands_as : (there : Option Database) (version : Option ℕ) (stores : Stores) → version ≡ version_there there → stores ≡ stores_in there → database_at version stores ≡ there
-stands_as there version stores v s = ap (λ x. database_at x stores) v ∙ ap (database_at (version_there there)) s ∙ part_again there
-
-opened_version : (m : Mode) (schema : SchemaData) (part : Option Database) → version_there (made_all (opening_changes m schema) part) ≡ version_after m schema.version (version_there part)
-opened_version mode.ReadOnly schema part = refl
-opened_version mode.ReadWrite schema part = refl
-opened_version mode.VersionChange schema None = refl
-opened_version mode.VersionChange schema (Some d) = refl
 
 -- ---- the laws of a run
 one_more : {L : Type 0} (turns : List (List L)) (lines : List L) → joined_lines (turns ++ lines ∷ []) ≡ joined_lines turns ++ lines
@@ -79,12 +56,6 @@ module _ (body : ScriptedBody Script) (part : Option Database) (placed : Becomes
   its_mode : (front_left body).mode ≡ body.mode
   its_mode = left_mode body.threw body.front ∙ mode_of_body body.mode body.schema body.names body.front placed
 
-  pub version_left : (state : State Script) (turns : List (List Note)) → GoesBy ScriptReacts ScriptWrites (begun_state body part) state turns → version_there state.database ≡ version_after body.mode body.schema.version (version_there part)
-  version_left state turns goes =
-      goes_version ScriptReacts ScriptWrites (begun_state body part) state turns goes
-      ∙ ap (λ m. version_there (made_all (opening_changes m body.schema) part)) its_mode
-      ∙ opened_version body.mode body.schema part
-
 -- the entry of a committed one
 abbrev entry_as : ScriptedBody Script → List (List Note) → List DeltaTree → Option SchemaData → FinishEntry Script Note
 entry_as body turns changes kept = record { number = 0; body = Scripted body; started = true; turns = turns; changes = changes; kept = kept; by_host = false; outcome = Committed }
@@ -95,112 +66,137 @@ pub within_as : ((items : Items) (e : FinishEntry Script Note) → RunsAlone Scr
 within_as law body items turns changes kept run = law items (entry_as body turns changes kept) run
 
 -- ---- its end
-abbrev IsPutBack : Type 0
-IsPutBack = (scope : Scope) (items : Items) → with_part scope (without_part scope items) (part_of scope items) ≡ items
-
-abbrev IsChangedAlike : Type 0
-IsChangedAlike = (scope : Scope) (items : Items) (changes : List DeltaTree) → AllWithin scope changes → with_part scope (without_part scope items) (made_all changes (part_of scope items)) ≡ applied_all items changes
-
 abbrev RunMakes : Type 0
 RunMakes = (body : ScriptedBody Script) (part : Option Database) (new : State Script) (turns : List (List Note)) → Becomes (new_front body.mode body.schema body.names) body.front → FitsWhole part body → GoesBy ScriptReacts ScriptWrites (begun_state body part) new turns → made_all new.changes part ≡ new.database
 
 abbrev RunIsWithin : Type 0
 RunIsWithin = (body : ScriptedBody Script) (items : Items) (turns : List (List Note)) (changes : List DeltaTree) (kept : Option SchemaData) → ScriptedRun ScriptReacts ScriptWrites (part_of (scope_of_scripted body) items) body turns changes kept false Committed → AllWithin (scope_of_scripted body) changes
 
-module _ (body : ScriptedBody Script) (name : Name) (before after : Option ℕ) (state : State ScriptHandler) (turns : List (List Note)) (stuck : Bool) (number : ℕ) where
-  abbrev its : Scope
-  its = scope_of_scripted body
+module _ (body : ScriptedBody Script) (name : Name) (state : State ScriptHandler) (turns : List (List Note)) (stuck : Bool) where
+  abbrev Running : Option Outcome → Type 0
+  Running end = IsRunning body name state turns stuck end
 
-  module _ (is : IsRunning body name before after state turns stuck (Some Committed)) where
-    pub committed_version : after ≡ version_there state.database
-    committed_version = is.after_is ∙ sym (version_left body state.before is.placed (state_now state) turns is.came.goes)
+  abbrev seen : ℕ → Option Outcome → SessionTxState
+  seen number end = record { number = number; body = body; part = state.before; turns = turns; end = end }
 
-    run_of : (kept : Option SchemaData) → kept ≡ schema_kept body.mode state.schema → ScriptedRun ScriptReacts ScriptWrites state.before body turns state.changes kept false Committed
-    run_of kept keeps = record {
-      placed = is.placed;
-      runs = (
-        refl,
-        record {
-          out = record { new = state_now state; goes = is.came.goes; idle = is.came.idle; changed = refl };
-          schema = keeps ∙ ap (λ m. schema_kept m state.schema) (sym (its_mode body state.before is.placed));
-        },
-      );
-    }
+  abbrev out_of : Running (Some Committed) → RunsOut ScriptReacts ScriptWrites (begun_state body state.before) turns state.changes
+  out_of is = record { new = state_now state; goes = is.came.goes; idle = is.came.idle; changed = refl }
 
-    module _ (again : IsChangedAlike) (makes : RunMakes) (within : RunIsWithin) (kept : Option SchemaData) (keeps : kept ≡ schema_kept body.mode state.schema) (old new : Items) (stores : Stores) (held : stores ≡ stores_in state.database)
-        (given : new ≡ with_part its old (database_at after stores)) where
-      leaves_changed : LeavesItsPart its state.before state.changes old new
-      leaves_changed items taken part =
-          let run = subst (λ p. ScriptedRun ScriptReacts ScriptWrites p body turns state.changes kept false Committed) part (run_of kept keeps) in
-          given
-          ∙ ap (with_part its old) (stands_as state.database after stores committed_version held)
-          ∙ ap (with_part its old) (sym (makes body state.before (state_now state) turns is.placed is.fits is.came.goes) ∙ ap (made_all state.changes) part)
-          ∙ ap (λ o. with_part its o (made_all state.changes (part_of its items))) taken
-          ∙ again its items state.changes (within body items turns state.changes kept run)
+  run_of : Running (Some Committed) → ScriptedRun ScriptReacts ScriptWrites state.before body turns state.changes (schema_kept body.mode state.schema) false Committed
+  run_of is = record {
+    placed = is.placed;
+    runs = (refl, record { out = out_of is; schema = ap (λ m. schema_kept m state.schema) (sym (its_mode body state.before is.placed)) });
+  }
 
-      pub commits_so : RanAndLeft (record { number = number; body = body; part = state.before; turns = turns; end = Some Committed }) Committed kept state.changes old new
-      commits_so = record { runs = run_of kept keeps; leaves = leaves_changed }
+  ran_as : (number : ℕ) (o : Outcome) → Running (Some o) → RanSo (seen number (Some o)) (changes_told o state.changes) (schema_kept_by o body.mode state.schema) o
+  ran_as number Committed is = run_of is
+  ran_as number (Aborted error true) is = absurd is.came
+  ran_as number (Aborted error false) is = record { placed = is.placed; runs = (refl, is.came.0) }
 
-  module _ (error : Option ErrorName) (is : IsRunning body name before after state turns stuck (Some (Aborted error false))) (again : IsPutBack) (old new : Items) (stores : Stores) (held : stores ≡ stores_in state.database)
-      (given : new ≡ with_part its old (database_at before stores)) where
-    pub aborted_stores : stores ≡ stores_in state.before
-    aborted_stores = held ∙ ap stores_in is.came.1
+  doubted_as : (number : ℕ) → Running (Some Committed) → DoubtedRun (seen number (Some Committed)) state.changes
+  doubted_as number is = record { placed = is.placed; runs = (refl, refl, record { out = out_of is; by_disk = refl }) }
 
-    leaves_none : LeavesItsPart its state.before [] old new
-    leaves_none items taken part =
-        given
-        ∙ ap (with_part its old) (stands_as state.before before stores is.before_is aborted_stores ∙ part)
-        ∙ ap (λ o. with_part its o (part_of its items)) taken
-        ∙ again its items
+  left_as : RunMakes → RunIsWithin → (o : Outcome) → Running (Some o) → IsLeft (scope_of_scripted body) state.before state.database (changes_told o state.changes)
+  left_as makes within Committed is = record {
+    made = makes body state.before (state_now state) turns is.placed is.fits is.came.goes;
+    within = λ items part. within body items turns state.changes (schema_kept body.mode state.schema)
+        (subst (λ p. ScriptedRun ScriptReacts ScriptWrites p body turns state.changes (schema_kept body.mode state.schema) false Committed) part (run_of is));
+  }
+  left_as makes within (Aborted error true) is = absurd is.came
+  left_as makes within (Aborted error false) is = record { made = sym is.came.1; within = λ items part. tt }
 
-    pub aborts_with : RanAndLeft (record { number = number; body = body; part = state.before; turns = turns; end = Some (Aborted error false) }) (Aborted error false) None [] old new
-    aborts_with = record { runs = record { placed = is.placed; runs = (refl, is.came.0) }; leaves = leaves_none }
+  -- ---- by the end that is kept
+  module _ (end : Option Outcome) (is : Running end) (number : ℕ) (o : Outcome) (at : end ≡ Some o) where
+    ended_as : Running (Some o)
+    ended_as = subst (λ e. Running e) at is
 
--- ---- by the end that is kept
-module _ (body : ScriptedBody Script) (name : Name) (before after : Option ℕ) (state : State ScriptHandler) (turns : List (List Note)) (stuck : Bool) (end : Option Outcome) (is : IsRunning body name before after state turns stuck end) (number : ℕ) where
-  abbrev seen : SessionTxState
-  seen = record { number = number; body = body; part = state.before; turns = turns; end = end }
+    pub closes : (tx : SessionTxState) → seen number end ≡ tx → (changes : List DeltaTree) → changes ≡ changes_told o state.changes → (kept : Option SchemaData) → kept ≡ schema_kept_by o body.mode state.schema → RanSo tx changes kept o
+    closes tx view changes noted kept keeps =
+        subst (λ t. RanSo t changes kept o) view
+        (subst (λ e. RanSo (seen number e) changes kept o) (sym at)
+        (subst (λ ds. RanSo (seen number (Some o)) ds kept o) (sym noted)
+        (subst (λ k. RanSo (seen number (Some o)) (changes_told o state.changes) k o) (sym keeps) (ran_as number o ended_as))))
 
-  ended_as : (o : Option Outcome) → end ≡ o → IsRunning body name before after state turns stuck o
-  ended_as o e = subst (IsRunning body name before after state turns stuck) e is
+    pub leaves : RunMakes → RunIsWithin → (changes : List DeltaTree) → changes ≡ changes_told o state.changes → IsLeft (scope_of body.mode name body.names) state.before state.database changes
+    leaves makes within changes noted =
+        subst (λ (n : Name). IsLeft (scope_of body.mode n body.names) state.before state.database changes) (sym ended_as.name_is)
+        (subst (λ ds. IsLeft (scope_of_scripted body) state.before state.database ds) (sym noted) (left_as makes within o ended_as))
 
-  pub commit_lasts : end ≡ Some Committed → (stores : Stores) → stores ≡ stores_in state.database → after ≡ None → stores ≡ finite.empty
-  commit_lasts e stores held = lasts_with state.database after stores (committed_version body name before after state turns stuck number (ended_as (Some Committed) e)) held
+    committed_as : o ≡ Committed → Running (Some Committed)
+    committed_as e = subst (λ x. Running (Some x)) e ended_as
 
-  pub finish_committed : end ≡ Some Committed → IsChangedAlike → RunMakes → RunIsWithin → (tx : SessionTxState) → seen ≡ tx → (schema : SchemaData) → schema ≡ state.schema → (kept : Option SchemaData) → kept ≡ schema_kept body.mode schema → (changes : List DeltaTree) → changes ≡ state.changes
-      → (old new : Items) (stores : Stores) → stores ≡ stores_in state.database → (database : Name) → database ≡ name → new ≡ with_part (scope_of body.mode database body.names) old (database_at after stores)
-      → RanAndLeft tx Committed kept changes old new
-  finish_committed e again makes within tx view schema left kept keeps changes noted old new stores held database named given =
-      subst (λ t. RanAndLeft t Committed kept changes old new) view
-      (subst (λ o. RanAndLeft (record { number = number; body = body; part = state.before; turns = turns; end = o }) Committed kept changes old new) (sym e)
-      (subst (λ ds. RanAndLeft (record { number = number; body = body; part = state.before; turns = turns; end = Some Committed }) Committed kept ds old new) (sym noted)
-      (commits_so body name before after state turns stuck number (ended_as (Some Committed) e) again makes within kept (keeps ∙ ap (schema_kept body.mode) left) old new stores held
-      (given ∙ ap (λ n. with_part (scope_of body.mode n body.names) old (database_at after stores)) (named ∙ is.name_is)))))
+    told_all : o ≡ Committed → changes_told o state.changes ≡ state.changes
+    told_all e = ap (λ x. changes_told x state.changes) e
 
-  aborted_so : (error : Option ErrorName) (doubt : Bool) → IsRunning body name before after state turns stuck (Some (Aborted error doubt)) → IsPutBack → (old new : Items) (stores : Stores) → stores ≡ stores_in state.database
-      → new ≡ with_part (scope_of_scripted body) old (database_at before stores) → RanAndLeft (record { number = number; body = body; part = state.before; turns = turns; end = Some (Aborted error doubt) }) (Aborted error doubt) None [] old new
-  aborted_so error true here again old new stores held given = absurd here.came
-  aborted_so error false here again old new stores held given = aborts_with body name before after state turns stuck number error here again old new stores held given
+    pub doubts : (tx : SessionTxState) → seen number end ≡ tx → (changes : List DeltaTree) → changes ≡ changes_told o state.changes → o ≡ Committed → DoubtedRun tx changes
+    doubts tx view changes noted e =
+        subst (λ t. DoubtedRun t changes) view
+        (subst (λ x. DoubtedRun (seen number x) changes) (sym (at ∙ ap (λ x. Some x) e))
+        (subst (λ ds. DoubtedRun (seen number (Some Committed)) ds) (sym (noted ∙ told_all e)) (doubted_as number (committed_as e))))
 
-  stores_before : (error : Option ErrorName) (doubt : Bool) → IsRunning body name before after state turns stuck (Some (Aborted error doubt)) → stores_in state.database ≡ stores_in state.before
-  stores_before error true here = absurd here.came
-  stores_before error false here = ap stores_in here.came.1
+    -- what it changed can be logged
+    pub logged : ((changes : List DeltaTree) → length changes ≤ GREATEST_DELTA_COUNT → IsWithinLimit changes) → (changes : List DeltaTree) → changes ≡ changes_told o state.changes → o ≡ Committed → AreLoggable changes × IsWithinLimit changes
+    logged count changes noted e =
+        let can : CanLog state = (committed_as e).logs in
+        let all : changes ≡ state.changes = noted ∙ told_all e in
+        (subst AreLoggable (sym all) can.loggable, subst (λ (ds : List DeltaTree). IsWithinLimit ds) (sym all) (count state.changes can.within.changes))
 
-  pub abort_lasts : (error : Option ErrorName) (doubt : Bool) → end ≡ Some (Aborted error doubt) → (stores : Stores) → stores ≡ stores_in state.database → before ≡ None → stores ≡ finite.empty
-  abort_lasts error doubt e stores held = lasts_with state.before before stores is.before_is (held ∙ stores_before error doubt (ended_as (Some (Aborted error doubt)) e))
+-- ---- its part
+abbrev IsPutBack : Type 0
+IsPutBack = (scope : Scope) (items : Items) → with_part scope (without_part scope items) (part_of scope items) ≡ items
 
-  pub finish_aborted : (error : Option ErrorName) (doubt : Bool) → end ≡ Some (Aborted error doubt) → IsPutBack → (tx : SessionTxState) → seen ≡ tx → (changes : List DeltaTree) → changes ≡ []
-      → (old new : Items) (stores : Stores) → stores ≡ stores_in state.database → (database : Name) → database ≡ name → new ≡ with_part (scope_of body.mode database body.names) old (database_at before stores)
-      → RanAndLeft tx (Aborted error doubt) None changes old new
-  finish_aborted error doubt e again tx view changes noted old new stores held database named given =
-      subst (λ ds. RanAndLeft tx (Aborted error doubt) None ds old new) (sym noted)
-      (subst (λ t. RanAndLeft t (Aborted error doubt) None [] old new) view
-      (subst (λ o. RanAndLeft (record { number = number; body = body; part = state.before; turns = turns; end = o }) (Aborted error doubt) None [] old new) (sym e)
-      (aborted_so error doubt (ended_as (Some (Aborted error doubt)) e) again old new stores held
-      (given ∙ ap (λ n. with_part (scope_of body.mode n body.names) old (database_at before stores)) (named ∙ is.name_is)))))
+abbrev IsChangedAlike : Type 0
+IsChangedAlike = (scope : Scope) (items : Items) (changes : List DeltaTree) → AllWithin scope changes → with_part scope (without_part scope items) (made_all changes (part_of scope items)) ≡ applied_all items changes
 
-  -- what it changed can be logged
-  pub logged_finish : end ≡ Some Committed → ((changes : List DeltaTree) → length changes ≤ GREATEST_DELTA_COUNT → IsWithinLimit changes) → (changes : List DeltaTree) → changes ≡ state.changes → AreLoggable changes × IsWithinLimit changes
-  logged_finish e count changes noted =
-      let can : CanLog state = (ended_as (Some Committed) e).logs in
-      (subst AreLoggable (sym noted) can.loggable, subst (λ (ds : List DeltaTree). IsWithinLimit ds) (sym noted) (count state.changes can.within.changes))
+abbrev version_there : Option Database → Option ℕ
+version_there there = option_map (λ d. d.version) there
+
+part_again : (there : Option Database) → database_at (version_there there) (stores_in there) ≡ there
+part_again None = refl
+part_again (Some d) = refl
+
+no_stores : (there : Option Database) → version_there there ≡ None → stores_in there ≡ finite.empty
+no_stores None e = refl
+no_stores (Some d) e = cc
+
+pub lasts_with : (there : Option Database) (version : Option ℕ) (stores : Stores) → version ≡ version_there there → stores ≡ stores_in there → version ≡ None → stores ≡ finite.empty
+lasts_with there version stores v s none = s ∙ no_stores there (sym v ∙ none)
+
+stands_as : (there : Option Database) (version : Option ℕ) (stores : Stores) → version ≡ version_there there → stores ≡ stores_in there → database_at version stores ≡ there
+stands_as there version stores v s = ap (λ x. database_at x stores) v ∙ ap (database_at (version_there there)) s ∙ part_again there
+
+module _ (scope : Scope) (live : LiveData) (changes : List DeltaTree) (is : IsLeft scope live.before live.database changes) (old : Items) where
+  with_left : IsChangedAlike → (items : Items) → old ≡ without_part scope items → live.before ≡ part_of scope items → with_part scope old live.database ≡ applied_all items changes
+  with_left again items taken part =
+      ap (with_part scope old) (sym is.made ∙ ap (made_all changes) part)
+      ∙ ap (λ o. with_part scope o (made_all changes (part_of scope items))) taken
+      ∙ again scope items changes (is.within items part)
+
+  pub sound_with : IsChangedAlike → ((s : Scope) (items : Items) (part : Option Database) → AreSoundDatabases items → AreStores (stores_in part) → AreSoundDatabases (with_part s items part)) → (left : PartState) → record { scope = scope; part = live.before; changes = changes } ≡ left
+      → AreSoundDatabases old → AreStores (stores_in live.database) → (items : Items) → old ≡ without_part left.scope items → left.part ≡ part_of left.scope items → AreSoundDatabases (applied_all items left.changes)
+  sound_with again sound left view all own = subst (λ (l : PartState). (items : Items) → old ≡ without_part l.scope items → l.part ≡ part_of l.scope items → AreSoundDatabases (applied_all items l.changes)) view
+      (λ items taken part. subst AreSoundDatabases (with_left again items taken part) (sound scope old live.database all own))
+
+module _ (scope : Scope) (live : LiveData) (changes : List DeltaTree) (is : IsLeft scope live.before live.database changes) (left : PartState) (view : record { scope = scope; part = live.before; changes = changes } ≡ left)
+    (old new : Items) (version : Option ℕ) (stores : Stores) (given : new ≡ with_part scope old (database_at version stores)) where
+  abbrev seen_left : PartState
+  seen_left = record { scope = scope; part = live.before; changes = changes }
+
+  keeps : IsChangedAlike → version ≡ version_there live.database → stores ≡ stores_in live.database → LeavesItsPart seen_left changes old new
+  keeps again v s items taken part =
+      given
+      ∙ ap (with_part scope old) (stands_as live.database version stores v s)
+      ∙ with_left scope live changes is old again items taken part
+
+  takes_back : IsPutBack → version ≡ version_there live.before → stores ≡ stores_in live.before → LeavesItsPart seen_left [] old new
+  takes_back again v s items taken part =
+      given
+      ∙ ap (with_part scope old) (stands_as live.before version stores v s ∙ part)
+      ∙ ap (λ o. with_part scope o (part_of scope items)) taken
+      ∙ again scope items
+
+  pub kept_so : IsChangedAlike → version ≡ version_there live.database → stores ≡ stores_in live.database → LeavesItsPart left left.changes old new
+  kept_so again v s = subst (λ l. LeavesItsPart l l.changes old new) view (keeps again v s)
+
+  pub taken_back_so : IsPutBack → version ≡ version_there live.before → stores ≡ stores_in live.before → LeavesItsPart left [] old new
+  taken_back_so again v s = subst (λ l. LeavesItsPart l [] old new) view (takes_back again v s)

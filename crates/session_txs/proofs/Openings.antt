@@ -42,7 +42,7 @@ use Rattle.script_runs.specs.declared.notes.Note.{Note}
 use Rattle.session_databases.specs.Parts.{scope_of}
 use Rattle.session_txs.specs.Running.{scope_of_scripted, IsLoggableBody}
 use Rattle.idb_databases.specs.Stores.{Stores}
-use Rattle.session_txs.specs.Keeping.{version_there, version_after, begun_state, GoesSo, CanLog, IsRunning}
+use Rattle.session_txs.specs.Keeping.{begun_state, GoesSo, CanLog, IsRunning}
 
 -- ---- modes
 mode_back : Access → Mode
@@ -107,36 +107,30 @@ module _ (m : Mode) (schema : SchemaData) (names : List Name) (front : Front Scr
   goes_begun state is = subst (λ s. GoesSo (scripted_body m schema names front threw) s []) (sym is)
       (subst (λ s. GoesBy ScriptReacts ScriptWrites (begun_state (scripted_body m schema names front threw) part) s []) (sym seen_begun) Fresh)
 
-version_at : (version : Option ℕ) (stores : Stores) → version ≡ version_there (database_at version stores)
-version_at None stores = refl
-version_at (Some v) stores = refl
-
 module _ (m : Mode) (schema : SchemaData) (names : List Name) (front : Front ScriptHandler) (version : Option ℕ) (stores : Stores) (threw : Bool) (b : Becomes (new_front m schema names) front) (made : FitsWhole (database_at version stores) (scripted_body m schema names front threw)) where
   abbrev part : Option Database
   part = database_at version stores
 
-  fresh : CanLog (fresh_state (left_of threw front) schema part) → (name : Name) (after : Option ℕ) → name ≡ schema.name → after ≡ version_after m schema.version version → IsRunning (scripted_body m schema names front threw) name version after (fresh_state (left_of threw front) schema part) [] false None
-  fresh can name after named left = record {
+  fresh : CanLog (fresh_state (left_of threw front) schema part) → (name : Name) → name ≡ schema.name → IsRunning (scripted_body m schema names front threw) name (fresh_state (left_of threw front) schema part) [] false None
+  fresh can name named = record {
     placed = becomes_plain script_seen (new_front m schema names) front b;
     fits = made;
     name_is = named;
-    before_is = version_at version stores;
-    after_is = left ∙ ap (version_after m schema.version) (version_at version stores);
     came = λ _. goes_begun m schema names front part threw (fresh_state (left_of threw front) schema part) refl;
     logs = λ _. can;
   }
 
-  pub running_as : CanLog (fresh_state (left_of threw front) schema part) → (name : Name) (after : Option ℕ) → name ≡ schema.name → after ≡ version_after m schema.version version → (state : State ScriptHandler) → state ≡ fresh_state (left_of threw front) schema part
-      → IsRunning (scripted_body m schema names front threw) name version after state [] false None
-  running_as can name after named left state is = subst (λ s. IsRunning (scripted_body m schema names front threw) name version after s [] false None) (sym is) (fresh can name after named left)
+  pub running_as : CanLog (fresh_state (left_of threw front) schema part) → (name : Name) → name ≡ schema.name → (state : State ScriptHandler) → state ≡ fresh_state (left_of threw front) schema part
+      → IsRunning (scripted_body m schema names front threw) name state [] false None
+  running_as can name named state is = subst (λ s. IsRunning (scripted_body m schema names front threw) name s [] false None) (sym is) (fresh can name named)
 
   -- by what is kept of its parts
-  pub running_seen : CanLog (fresh_state (left_of threw front) schema part) → (schema_seen : SchemaData) (front_seen : Front ScriptHandler) → schema_seen ≡ schema → front_seen ≡ front → (name : Name) (after : Option ℕ) → name ≡ schema.name → after ≡ version_after m schema.version version
-      → (state : State ScriptHandler) → state ≡ fresh_state (left_of threw front) schema part → (turns : List (List Note)) → turns ≡ [] → IsRunning (scripted_body m schema_seen names front_seen threw) name version after state turns false None
-  running_seen can schema_seen front_seen s f name after named left state is turns none =
-      subst (λ ts. IsRunning (scripted_body m schema_seen names front_seen threw) name version after state ts false None) (sym none)
-      (subst (λ x. IsRunning (scripted_body m x names front_seen threw) name version after state [] false None) (sym s)
-      (subst (λ x. IsRunning (scripted_body m schema names x threw) name version after state [] false None) (sym f) (running_as can name after named left state is)))
+  pub running_seen : CanLog (fresh_state (left_of threw front) schema part) → (schema_seen : SchemaData) (front_seen : Front ScriptHandler) → schema_seen ≡ schema → front_seen ≡ front → (name : Name) → name ≡ schema.name
+      → (state : State ScriptHandler) → state ≡ fresh_state (left_of threw front) schema part → (turns : List (List Note)) → turns ≡ [] → IsRunning (scripted_body m schema_seen names front_seen threw) name state turns false None
+  running_seen can schema_seen front_seen s f name named state is turns none =
+      subst (λ ts. IsRunning (scripted_body m schema_seen names front_seen threw) name state ts false None) (sym none)
+      (subst (λ x. IsRunning (scripted_body m x names front_seen threw) name state [] false None) (sym s)
+      (subst (λ x. IsRunning (scripted_body m schema names x threw) name state [] false None) (sym f) (running_as can name named state is)))
 
 -- ---- what can be logged
 abbrev LogOpening : Type 0

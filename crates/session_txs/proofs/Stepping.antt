@@ -30,7 +30,7 @@ use Rattle.serial_order.specs.NumberOrder.{FitsWhole}
 use Rattle.script_runs.specs.declared.notes.Note.{Note}
 use Rattle.script_handlers.specs.declared.handlers.ScriptHandler.{ScriptHandler}
 use Rattle.script_handlers.specs.Handling.{Script, ScriptReacts, ScriptWrites}
-use Rattle.session_txs.specs.Keeping.{version_there, version_after, begun_state, state_now, GoesSo, HasRunOut, StandsAfter, CanLog, LogsSo, IsRunning}
+use Rattle.session_txs.specs.Keeping.{begun_state, state_now, GoesSo, HasRunOut, StandsAfter, CanLog, LogsSo, IsRunning}
 
 -- ---- lines
 behind : {A : Type 0} (xs ys : List A) → drop (length xs) (xs ++ ys) ≡ ys
@@ -125,15 +125,13 @@ goes_now body state turns stuck end came none free = subst (λ o. StandsAfter bo
 abbrev Told : Step → State ScriptHandler → State ScriptHandler → List Note → List Note → Type 0
 Told s old new before after = (lines : List Note) × Turn ScriptReacts ScriptWrites (state_now old) s (state_now new) lines × (after ≡ before ++ lines)
 
-module _ (body : ScriptedBody Script) (name : Name) (before after : Option ℕ) (old new : State ScriptHandler) (turns : List (List Note)) (stuck : Bool) (end : Option Outcome)
-    (is : IsRunning body name before after old turns stuck end) (none : end ≡ None) (free : stuck ≡ false) (same : new.before ≡ old.before) where
-  keeps : (last : List (List Note)) (is_stuck : Bool) (o : Option Outcome) → StandsAfter body new last is_stuck o → LogsSo new is_stuck o → IsRunning body name before after new last is_stuck o
+module _ (body : ScriptedBody Script) (name : Name) (old new : State ScriptHandler) (turns : List (List Note)) (stuck : Bool) (end : Option Outcome)
+    (is : IsRunning body name old turns stuck end) (none : end ≡ None) (free : stuck ≡ false) (same : new.before ≡ old.before) where
+  keeps : (last : List (List Note)) (is_stuck : Bool) (o : Option Outcome) → StandsAfter body new last is_stuck o → LogsSo new is_stuck o → IsRunning body name new last is_stuck o
   keeps last is_stuck o came logs = record {
     placed = is.placed;
     fits = subst (λ p. FitsWhole p body) (sym same) is.fits;
     name_is = is.name_is;
-    before_is = is.before_is ∙ ap version_there (sym same);
-    after_is = is.after_is ∙ ap (λ p. version_after body.mode body.schema.version (version_there p)) (sym same);
     came = came;
     logs = logs;
   }
@@ -146,15 +144,15 @@ module _ (body : ScriptedBody Script) (name : Name) (before after : Option ℕ) 
       seen ∙ ap (λ ls. turns ++ ls ∷ []) (ap (λ ns. drop (length ns) notes_after) begun ∙ lines_behind notes t.0 notes_after t.2)
 
   pub did_keep : (notes notes_after noted : List Note) (last : List (List Note)) → Told step.Did old new notes notes_after → noted ≡ notes → last ≡ turns ++ drop (length noted) notes_after ∷ [] → CanLog new
-      → IsRunning body name before after new last false end
-  did_keep notes notes_after noted last t begun seen can = subst (λ o. IsRunning body name before after new last false o) (sym none)
+      → IsRunning body name new last false end
+  did_keep notes notes_after noted last t begun seen can = subst (λ o. IsRunning body name new last false o) (sym none)
       (keeps last false None (λ _. goes_further body old new same turns its_goes t.0 last t.1 (one_turn step.Did notes notes_after noted last t begun seen)) (λ _. can))
 
-  pub idle_keep : (notes notes_after : List Note) → Told step.Idle old new notes notes_after → CanLog new → IsRunning body name before after new turns true (Some Committed)
+  pub idle_keep : (notes notes_after : List Note) → Told step.Idle old new notes notes_after → CanLog new → IsRunning body name new turns true (Some Committed)
   idle_keep notes notes_after t can = keeps turns true (Some Committed) (runs_out body old new same turns its_goes t.0 t.1) can
 
   pub aborted_keep : (error : Option ErrorName) (notes notes_after noted : List Note) (last : List (List Note)) → Told (step.Aborted error) old new notes notes_after → noted ≡ notes → last ≡ turns ++ drop (length noted) notes_after ∷ []
-      → IsRunning body name before after new last true (Some (Aborted error false))
+      → IsRunning body name new last true (Some (Aborted error false))
   aborted_keep error notes notes_after noted last t begun seen = keeps last true (Some (Aborted error false))
       (aborts_so body old new same turns its_goes error t.0 last t.1 (one_turn (step.Aborted error) notes notes_after noted last t begun seen)) tt
 

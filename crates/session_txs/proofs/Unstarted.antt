@@ -1,10 +1,10 @@
--- A transaction that its body aborted.
---     cancelled_so, ends_unstarted  it finishes without starting
+-- A transaction that never starts.
+--     cancelled_by          it finishes without starting
+--     ends_by               so it does, as its parts tell it
 --     attended_left         each of its entries has its handler
 --     front_placed          its front became by calls what it is
-use Rattle.std.proofs.Common.{◌≡◌, ℕ, List, ◌++◌, map, Option, refl, sym, ◌∙◌, ap, subst}
+use Rattle.std.proofs.Common.{◌≡◌, ℕ, List, ◌++◌, map, refl, sym, ◌∙◌, ap, subst}
 use Rattle.std.specs.Prelude.{Bool, true, false, not}
-use Rattle.idb_keys.specs.declared.names.ErrorName.{ErrorName}
 use Rattle.idb_calls.specs.declared.traces.Outcome.{Outcome}
 use Rattle.idb_calls.specs.declared.traces.Outcome.TheVariants as outcome
 use Rattle.request_lists.specs.declared.entries.Phase.{Phase}
@@ -43,10 +43,10 @@ module _ (body : ScriptedBody Script) (placed : Becomes (new_front body.mode bod
       subst (λ e. Cancels ScriptReacts ScriptWrites (front_left body).waiting (aborted_by e (front_left body)) last lines) (same_error (front_left body).phase)
       (subst (λ f. Cancels ScriptReacts ScriptWrites f.waiting (aborted_by (cancel_error f.phase) f) last lines) is t)
 
-  pub cancelled_so : (o : Outcome) → is_aborted_phase (front_left body).phase ≡ true → o ≡ outcome.Aborted (cancel_error front.phase) false
+  pub cancelled_by : (o : Outcome) → o ≡ outcome.Aborted (cancel_error front.phase) false
       → (last : Front Script) × (lines : List Note) × Cancels ScriptReacts ScriptWrites (map (entry_map script_seen) front.waiting) (front_map script_seen (cancelled front)) last lines × (after ≡ before ++ lines)
-      → EndsUnstarted body o before after
-  cancelled_so o aborted ends t = record {
+      → EndsUnstarted body (not (is_aborted_phase (front_left body).phase)) o before after
+  cancelled_by o ends t = record {
     lines = t.1;
     never = record {
       cancelled = record {
@@ -54,7 +54,7 @@ module _ (body : ScriptedBody Script) (placed : Becomes (new_front body.mode bod
         last = t.0;
         lines = t.1;
         told = told_of t.0 t.1 (front_map script_seen front) left t.2;
-        by_body = ap not (sym aborted);
+        by_body = refl;
         one_turn = refl;
         ended = ends ∙ ap (λ (f : Front Script). outcome.Aborted (cancel_error f.phase) false) left ∙ ap (λ e. outcome.Aborted e false) (same_error (front_left body).phase);
       };
@@ -71,13 +71,12 @@ attended_left threw front left is a rested thrown = subst IsAttended (sym is) (e
 pub front_placed : (begun : BegunState) (p : BegunParts) → begun ≡ parts_seen p → Becomes (new_front p.mode p.schema p.names) p.front → Becomes (new_front begun.body.mode begun.body.schema begun.body.names) begun.body.front
 front_placed begun p is b = subst (λ (x : BegunState). Becomes (new_front x.body.mode x.body.schema x.body.names) x.body.front) (sym is) (becomes_plain script_seen (new_front p.mode p.schema p.names) p.front b)
 
-pub ends_unstarted : (begun : BegunState) (p : BegunParts) → begun ≡ parts_seen p → Becomes (new_front p.mode p.schema p.names) p.front → (front : Front ScriptHandler) → front ≡ left_of p.threw p.front
-    → (error : Option ErrorName) → front.phase ≡ phase.Aborted error → (trace : TxTrace) (number : ℕ) (durability : Durability) → trace ≡ cancelled_trace number durability front → (before after : List Note)
+pub ends_by : (begun : BegunState) (p : BegunParts) → begun ≡ parts_seen p → Becomes (new_front p.mode p.schema p.names) p.front → (front : Front ScriptHandler) → front ≡ left_of p.threw p.front
+    → (trace : TxTrace) (number : ℕ) (durability : Durability) → trace ≡ cancelled_trace number durability front → (before after : List Note)
     → (last : Front Script) × (lines : List Note) × Cancels ScriptReacts ScriptWrites (map (entry_map script_seen) front.waiting) (front_map script_seen (cancelled front)) last lines × (after ≡ before ++ lines)
-    → EndsUnstarted begun.body trace.outcome before after
-ends_unstarted begun p is b front left error phased trace number durability traced before after told =
+    → EndsUnstarted begun.body (not (is_aborted_phase (front_left begun.body).phase)) trace.outcome before after
+ends_by begun p is b front left trace number durability traced before after told =
     let body : ScriptedBody Script = scripted_body p.mode p.schema p.names p.front p.threw in
     let seen : front_map script_seen front ≡ front_left body = ap (front_map script_seen) left ∙ left_seen script_seen p.threw p.front in
-    subst (λ (x : BegunState). EndsUnstarted x.body trace.outcome before after) (sym is)
-    (cancelled_so body (becomes_plain script_seen (new_front p.mode p.schema p.names) p.front b) front seen before after trace.outcome
-    (ap (λ (f : Front Script). is_aborted_phase f.phase) (sym seen) ∙ ap is_aborted_phase phased) (ap (λ (t : TxTrace). t.outcome) traced) told)
+    subst (λ (x : BegunState). EndsUnstarted x.body (not (is_aborted_phase (front_left x.body).phase)) trace.outcome before after) (sym is)
+    (cancelled_by body (becomes_plain script_seen (new_front p.mode p.schema p.names) p.front b) front seen before after trace.outcome (ap (λ (t : TxTrace). t.outcome) traced) told)

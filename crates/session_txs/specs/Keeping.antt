@@ -1,17 +1,21 @@
 -- What a running transaction keeps.
 --     lines_of_turn, turns_seen     the lines that were added to the notes in a turn;  in each
---     version_there, version_after     the version of a database, if it is there;  and once an upgrade to this version has begun
 --     begun_state, state_now        the state of the list machine as its body left it;  and now
 --     GoesSo                its turns so far lead from the one to the other
 --     StandsAfter                so it is while it goes on, and it is at its end
 --     CanLog, LogsSo        what it changed so far can be logged, and it is within its limits;  so it is while it goes on, and where it commits
 --     IsRunning             all of it
-use Rattle.std.specs.Prelude.{◌≡◌, ℕ, Bool, true, false, List, [], drop, length, map, Option, Some, None, option_map, ⊤}
+--     changes_told, schema_kept_by     what is told of one with this outcome
+--     IsLeft                a part of the databases with what was changed in it: the changes are in the scope that took it out
+use Rattle.std.specs.Prelude.{◌≡◌, Bool, true, false, List, [], drop, length, map, if◌then◌else◌, Option, Some, None, ⊤}
 use Rattle.idb_calls.specs.declared.traces.Outcome.{Outcome}
 use Rattle.idb_calls.specs.declared.traces.Outcome.TheVariants.{Committed, Aborted}
 use Rattle.idb_keys.specs.declared.names.Mode.{Mode}
-use Rattle.idb_keys.specs.declared.names.Mode.TheVariants as mode
-use Rattle.item_changes.specs.Items.{Name, Database}
+use Rattle.idb_schema.specs.Schemas.{SchemaData}
+use Rattle.idb_calls.specs.Deltas.{DeltaTree}
+use Rattle.item_changes.specs.Items.{Name, Database, Items}
+use Rattle.item_changes.specs.Effects.{made_all}
+use Rattle.item_changes.specs.Scopes.{Scope, AllWithin, part_of}
 use Rattle.request_lists.specs.Fronts.{new_front}
 use Rattle.request_lists.specs.Placing.{Becomes}
 use Rattle.list_machine.specs.declared.steps.Step.TheVariants as step
@@ -20,8 +24,8 @@ use Rattle.list_machine.specs.Machine.{Turn}
 use Rattle.list_machine.specs.Seeing.{state_map}
 use Rattle.machine_laws.specs.Limiting.{WithinLimits}
 use Rattle.loggable_changes.specs.Logging.{AreLoggable}
-use Rattle.serial_order.specs.FinishEntries.{ScriptedBody, front_left}
-use Rattle.serial_order.specs.SerialRuns.{GoesBy, AbortsItself}
+use Rattle.serial_order.specs.FinishEntries.{ScriptedBody, front_left, did_commit}
+use Rattle.serial_order.specs.SerialRuns.{GoesBy, AbortsItself, schema_kept}
 use Rattle.serial_order.specs.NumberOrder.{FitsWhole}
 use Rattle.script_runs.specs.declared.notes.Note.{Note}
 use Rattle.script_handlers.specs.declared.handlers.ScriptHandler.{ScriptHandler}
@@ -34,14 +38,6 @@ lines_of_turn t = drop (length t.before.value) t.after.value
 
 abbrev pub turns_seen : List TurnNotes → List (List Note)
 turns_seen ts = map lines_of_turn ts
-
-abbrev pub version_there : Option Database → Option ℕ
-version_there there = option_map (λ d. d.version) there
-
-abbrev pub version_after : Mode → ℕ → Option ℕ → Option ℕ
-version_after mode.ReadOnly version before = before
-version_after mode.ReadWrite version before = before
-version_after mode.VersionChange version before = Some version
 
 abbrev pub begun_state : ScriptedBody Script → Option Database → State Script
 begun_state body part = fresh_state (front_left body) body.schema part
@@ -73,12 +69,19 @@ LogsSo state is_stuck None = is_stuck ≡ false → CanLog state
 LogsSo state is_stuck (Some Committed) = CanLog state
 LogsSo state is_stuck (Some (Aborted error doubt)) = ⊤
 
--- with the version of its database before it, and the one at which it leaves it
-pub record IsRunning (body : ScriptedBody Script) (name : Name) (before after : Option ℕ) (state : State ScriptHandler) (turns : List (List Note)) (is_stuck : Bool) (end : Option Outcome) : Type 0 where
+pub record IsRunning (body : ScriptedBody Script) (name : Name) (state : State ScriptHandler) (turns : List (List Note)) (is_stuck : Bool) (end : Option Outcome) : Type 0 where
   pub placed : Becomes (new_front body.mode body.schema body.names) body.front
   pub fits : FitsWhole state.before body
   pub name_is : name ≡ body.schema.name
-  pub before_is : before ≡ version_there state.before
-  pub after_is : after ≡ version_after body.mode body.schema.version (version_there state.before)
   pub came : StandsAfter body state turns is_stuck end
   pub logs : LogsSo state is_stuck end
+
+abbrev pub changes_told : Outcome → List DeltaTree → List DeltaTree
+changes_told outcome changes = if did_commit outcome then changes else []
+
+abbrev pub schema_kept_by : Outcome → Mode → SchemaData → Option SchemaData
+schema_kept_by outcome mode schema = if did_commit outcome then schema_kept mode schema else None
+
+pub record IsLeft (scope : Scope) (before after : Option Database) (changes : List DeltaTree) : Type 0 where
+  pub made : made_all changes before ≡ after
+  pub within : (items : Items) → before ≡ part_of scope items → AllWithin scope changes

@@ -4,12 +4,16 @@
 --     with_one_turn, ended_tx       one turn more;  at its end
 --     IsLoggableBody        what it changes can be logged: an upgrade is to such a version, and its schema is within the limits
 --     StepsInto             what a step comes to
---     RanAndLeft            a finished one ran on its part of the databases, with these changes, and leaves there what it committed
---     IsDeletionTrace       what is told of a deletion, which commits
---     EndsUnstarted, EndsIfAborted    one that its body aborted is told so, and finishes without starting
-use Rattle.std.specs.Prelude.{◌≡◌, ◌≤◌, ℕ, true, false, length, List, [], ◌∷◌, ◌++◌, if◌then◌else◌, Option, Some, None, ⊤}
+--     PartState             the part of the databases that it had, and what it changed in it
+--     LeavesItsPart         that part stands again where it was taken out, with these changes
+--     RanSo, DoubtedRun     one that ended ran on its part of the databases, with these changes;  and so where its commit met a fault
+--     IsTraceOfDeletion     what is told of a deletion
+--     IsDeletionTrace, IsDroppedDeletion    of one that committed;  of one that the host ended before it started
+--     EndsUnstarted         one that never starts is told so, and finishes: its body aborted it, or the host ends it
+use Rattle.std.specs.Prelude.{◌≡◌, ◌≤◌, ℕ, Bool, true, false, length, List, [], ◌∷◌, ◌++◌, Option, Some, None, ⊤}
 use Rattle.idb_schema.specs.Schemas.{SchemaData}
 use Rattle.idb_keys.specs.declared.names.Durability.TheVariants.{Strict}
+use Rattle.idb_keys.specs.declared.names.ErrorName.TheVariants.{AbortError, UnknownError}
 use Rattle.idb_keys.specs.declared.names.Mode.TheVariants as mode
 use Rattle.idb_calls.specs.Deltas.{DeltaTree, DropDatabase}
 use Rattle.idb_calls.specs.declared.traces.TxTrace.{TxTrace}
@@ -23,7 +27,7 @@ use Rattle.request_lists.specs.Fronts.{is_upgrade_mode}
 use Rattle.list_machine.specs.declared.limits.TheConstants.{GREATEST_STORE_COUNT}
 use Rattle.list_machine.specs.declared.steps.Step.{Step}
 use Rattle.list_machine.specs.declared.steps.Step.TheVariants as step
-use Rattle.serial_order.specs.FinishEntries.{ScriptedBody, Scripted, scope_of_body, did_commit}
+use Rattle.serial_order.specs.FinishEntries.{ScriptedBody, Scripted, scope_of_body}
 use Rattle.serial_order.specs.SerialRuns.{RunsOn, NeverStarts}
 use Rattle.script_runs.specs.declared.notes.Note.{Note}
 use Rattle.script_handlers.specs.Handling.{Script, ScriptReacts, ScriptWrites}
@@ -63,28 +67,42 @@ StepsInto (step.Aborted error) old before new after = (lines : List Note) × (ne
 StepsInto step.NoMemory old before new after = ⊤
 
 -- ---- its end
-abbrev pub LeavesItsPart : Scope → Option Database → List DeltaTree → Items → Items → Type 0
-LeavesItsPart scope part changes old new = (items : Items) → old ≡ without_part scope items → part ≡ part_of scope items → new ≡ applied_all items changes
+-- as it was when the transaction began
+pub record PartState : Type 0 where
+  pub scope : Scope
+  pub part : Option Database
+  pub changes : List DeltaTree
 
--- The databases lack its part when it finishes, whatever happened to the rest of them since it began.
-pub record RanAndLeft (tx : SessionTxState) (outcome : Outcome) (kept : Option SchemaData) (changes : List DeltaTree) (old new : Items) : Type 0 where
-  pub runs : RunsOn ScriptReacts ScriptWrites tx.part (Scripted tx.body) tx.turns changes kept false outcome
-  pub leaves : LeavesItsPart (scope_of_scripted tx.body) tx.part (if did_commit outcome then changes else []) old new
+abbrev pub part_left : SessionTxState → List DeltaTree → PartState
+part_left tx changes = record { scope = scope_of_scripted tx.body; part = tx.part; changes = changes }
+
+-- the databases lack the part, whatever happened to the rest of them since
+abbrev pub LeavesItsPart : PartState → List DeltaTree → Items → Items → Type 0
+LeavesItsPart left changes old new = (items : Items) → old ≡ without_part left.scope items → left.part ≡ part_of left.scope items → new ≡ applied_all items changes
+
+abbrev pub RanSo : SessionTxState → List DeltaTree → Option SchemaData → Outcome → Type 0
+RanSo tx changes kept outcome = RunsOn ScriptReacts ScriptWrites tx.part (Scripted tx.body) tx.turns changes kept false outcome
+
+-- what it would have changed is told
+abbrev pub DoubtedRun : SessionTxState → List DeltaTree → Type 0
+DoubtedRun tx changes = RanSo tx changes None (Aborted (Some UnknownError) true)
 
 -- deletions are strict
-pub record IsDeletionTrace (number : ℕ) (name : Name) (trace : TxTrace) : Type 0 where
+pub record IsTraceOfDeletion (number : ℕ) (deltas : List DeltaTree) (ended : Outcome) (trace : TxTrace) : Type 0 where
   pub number_is : trace.number ≡ number
   pub mode : trace.mode ≡ mode.VersionChange
   pub durability : trace.durability ≡ Strict
-  pub changes : trace.deltas ≡ DropDatabase name ∷ []
-  pub outcome : trace.outcome ≡ Committed
+  pub changes : trace.deltas ≡ deltas
+  pub outcome : trace.outcome ≡ ended
+
+abbrev pub IsDeletionTrace : ℕ → Name → TxTrace → Type 0
+IsDeletionTrace number name trace = IsTraceOfDeletion number (DropDatabase name ∷ []) Committed trace
+
+abbrev pub IsDroppedDeletion : ℕ → TxTrace → Type 0
+IsDroppedDeletion number trace = IsTraceOfDeletion number [] (Aborted (Some AbortError) false) trace
 
 -- ---- without starting
-pub record EndsUnstarted (body : ScriptedBody Script) (outcome : Outcome) (before after : List Note) : Type 0 where
+pub record EndsUnstarted (body : ScriptedBody Script) (by_host : Bool) (outcome : Outcome) (before after : List Note) : Type 0 where
   pub lines : List Note
-  pub never : NeverStarts ScriptReacts ScriptWrites (Scripted body) (lines ∷ []) [] None false outcome
+  pub never : NeverStarts ScriptReacts ScriptWrites (Scripted body) (lines ∷ []) [] None by_host outcome
   pub added : after ≡ before ++ lines
-
-abbrev pub EndsIfAborted : ScriptedBody Script → Option Outcome → List Note → List Note → Type 0
-EndsIfAborted body None before after = after ≡ before
-EndsIfAborted body (Some outcome) before after = EndsUnstarted body outcome before after

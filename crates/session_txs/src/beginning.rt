@@ -9,13 +9,11 @@ ghost use Rattle.live_stores.specs.Live.{database_at};
 ghost use Rattle.session_databases.specs.Parts.{without_part};
 ghost use Rattle.client_parts.specs.Begun.{scripted_body};
 ghost use Rattle.session_txs.specs.Running.{scope_of_scripted, begun_tx, IsLoggableBody};
-ghost use Rattle.session_txs.specs.Keeping.{version_after};
 
 use crate::fronts::left_front;
 use crate::session_tx::SessionTx;
 use client_parts::{BegunParts, BegunTx};
 use idb_base::NoMemory;
-use idb_keys::Mode;
 use index_tables::Tables;
 use live_stores::{LiveStores, Stores};
 use live_tx::{LiveTx, live_laws};
@@ -84,7 +82,6 @@ fn running<T: Tables>(
     } = parts;
     let front_before = Snapshot::of(&front);
     let schema_before = Snapshot::of(&schema);
-    let after = version_after(mode, schema.version(), version);
     let front = left_front(front, threw);
     let stores = LiveStores::new(alloc, version, stores);
     let course = Course::new(alloc, mode, schema, stores, changes);
@@ -96,22 +93,9 @@ fn running<T: Tables>(
         threw,
         schema: schema_before,
         front: front_before,
-        before: version,
-        after,
         live,
         turns: Vec::new(alloc),
         is_stuck: false,
         end: None,
     })
-}
-
-/// The version of the database once an upgrade to this version has begun; others leave it.
-fn version_after(mode: Mode, version: u64, before: Option<u64>) -> Option<u64>
-    ensures { result ≡ version_after mode version before }
-{
-    match mode {
-        Mode::ReadOnly => before,
-        Mode::ReadWrite => before,
-        Mode::VersionChange => Some(version),
-    }
 }

@@ -2,12 +2,12 @@
 ghost use Rattle.std.specs.Prelude.{◌≡◌, ◌∷◌, [], OnOk, IfOk};
 ghost use Rattle.idb_calls.specs.Deltas.{DropDatabase};
 ghost use Rattle.item_changes.specs.Effects.{applied_all};
-ghost use Rattle.session_txs.specs.Running.{IsDeletionTrace};
+ghost use Rattle.session_txs.specs.Running.{IsTraceOfDeletion, IsDeletionTrace, IsDroppedDeletion};
 
 use clone_values::{Text, Texts};
 use idb_base::NoMemory;
 use idb_calls::{Delta, Deltas, Events, Outcome, TxTrace};
-use idb_keys::{Durability, Mode};
+use idb_keys::{Durability, ErrorName, Mode};
 use index_tables::Tables;
 use session_databases::SessionDatabases;
 use std::alloc::Global;
@@ -31,12 +31,30 @@ pub fn deletion_trace(alloc: Global, number: u64, name: Text) -> Result<TxTrace,
 {
     let mut deltas = Deltas::new(alloc);
     deltas.push(Delta::DropDatabase { db: name })?;
-    Ok(TxTrace {
+    Ok(trace_of(alloc, number, deltas, Outcome::Committed))
+}
+
+/// What is told of a deletion that hasn't started and ends, since the host is faulted. It takes no memory.
+pub fn dropped_deletion_trace(alloc: Global, number: u64) -> TxTrace
+    ensures { IsDroppedDeletion number result }
+{
+    let outcome = Outcome::Aborted {
+        error: Some(ErrorName::AbortError),
+        doubt: false,
+    };
+    trace_of(alloc, number, Deltas::new(alloc), outcome)
+}
+
+/// What is told of a deletion.
+fn trace_of(alloc: Global, number: u64, deltas: Deltas, outcome: Outcome) -> TxTrace
+    ensures { IsTraceOfDeletion number deltas outcome result }
+{
+    TxTrace {
         number,
         mode: Mode::VersionChange,
         durability: Durability::Strict,
         deltas,
         lines: Events::new(alloc),
-        outcome: Outcome::Committed,
-    })
+        outcome,
+    }
 }

@@ -6,13 +6,14 @@ ghost use Rattle.loggable_changes.specs.Logging.{AreLoggable};
 ghost use Rattle.request_lists.specs.Fronts.{is_read_only_mode};
 ghost use Rattle.list_machine.specs.declared.steps.Step.TheVariants as steps;
 ghost use Rattle.serial_order.specs.SerialRuns.{schema_kept};
-ghost use Rattle.session_txs.specs.Running.{StepsInto, RanAndLeft};
+ghost use Rattle.session_txs.specs.Running.{StepsInto, part_left, RanSo, DoubtedRun};
+ghost use Rattle.session_txs.specs.Keeping.{changes_told, schema_kept_by};
 
 use crate::laws_of_runs::run_laws;
+use crate::left_part::LeftPart;
 use crate::turns::{TurnNotes, note_turn};
 use clone_values::{Text, Texts};
 use edge_traits::Gate;
-use idb_base::NoMemory;
 use idb_calls::{Deltas, Outcome, TxTrace};
 use idb_keys::Mode;
 use idb_schema::Schema;
@@ -24,7 +25,6 @@ use machine_laws::limit_laws;
 use request_lists::TxFront;
 use script_handlers::ScriptHandler;
 use script_runs::Notes;
-use session_databases::{SessionDatabases, part_laws};
 use std::alloc::Global;
 use std::marker::Model;
 use std::snapshot::Snapshot;
@@ -39,8 +39,6 @@ pub struct SessionTx<T: Tables> {
     pub(crate) threw: bool,
     pub(crate) schema: Snapshot<Schema>,
     pub(crate) front: Snapshot<TxFront<ScriptHandler>>,
-    pub(crate) before: Option<u64>,
-    pub(crate) after: Option<u64>,
     pub(crate) live: LiveTx<T, ScriptHandler>,
     pub(crate) turns: Vec<TurnNotes>,
     pub(crate) is_stuck: bool,
@@ -68,16 +66,18 @@ impl<T: Tables> Model for SessionTx<T> {
 
     ghost invariant = { λ a. IsRunning
         (scripted_body a.mode a.schema.value a.names a.front.value a.threw)
-        a.name a.before a.after a.live.state (turns_seen a.turns.items) a.is_stuck a.end };
+        a.name a.live.state (turns_seen a.turns.items) a.is_stuck a.end };
 }
 
-/// How a transaction ended.
+/// A transaction that came to its end.
 #[derive(Drop)]
-pub struct TxEnd {
+pub struct TxEnd<T: Tables> {
     /// What is told of it: a committed one has its changes, in the order in which they took effect, and an aborted one none.
     pub trace: TxTrace,
     /// The schema as the calls of a committed upgrade left it.
     pub kept: Option<Schema>,
+    /// Its part of the databases, which isn't back yet.
+    pub left: LeftPart<T>,
 }
 
 impl<T: Tables> SessionTx<T> {
@@ -151,66 +151,68 @@ impl<T: Tables> SessionTx<T> {
         }
     }
 
-    /// It finishes: its part goes back into the databases, as it committed it, or as it was where it aborted.
-    pub fn finish(
-        self,
-        alloc: Global,
-        databases: &mut SessionDatabases<T>,
-    ) -> Result<TxEnd, NoMemory>
+    /// What it came to. Its part of the databases is still to be put back: as it left it, or where its commit meets a fault of the
+    /// disk, as it was. It takes no memory.
+    pub fn close(self, alloc: Global) -> TxEnd<T>
         requires ended { is_some self.end ≡ true }
-        ensures outcome { IfOk result (λ e. self.end ≡ Some e.trace.outcome) }
-        ensures ran { IfOk result (λ e. RanAndLeft self e.trace.outcome e.kept e.trace.deltas
-            databases.old databases.new) }
-        ensures loggable { IfOk result (λ e. e.trace.outcome ≡ Committed
-            → AreLoggable e.trace.deltas × IsWithinLimit e.trace.deltas) }
-        ensures number { IfOk result (λ e. e.trace.number ≡ self.number) }
-        ensures mode { IfOk result (λ e. e.trace.mode ≡ self.body.mode) }
+        ensures outcome { self.end ≡ Some result.trace.outcome }
+        ensures ran { RanSo self result.trace.deltas result.kept result.trace.outcome }
+        ensures doubted { result.trace.outcome ≡ Committed → DoubtedRun self result.trace.deltas }
+        ensures left { result.left ≡ part_left self result.trace.deltas }
+        ensures loggable { result.trace.outcome ≡ Committed
+            → AreLoggable result.trace.deltas × IsWithinLimit result.trace.deltas }
+        ensures number { result.trace.number ≡ self.number }
+        ensures mode { result.trace.mode ≡ self.body.mode }
     {
-        part_laws();
         run_laws();
         loggable_change_laws();
         let SessionTx {
             mode,
             name,
             names,
-            before,
-            after,
             live,
             end,
             ..
         } = self;
         let done = live.into_parts();
-        match end {
-            Some(Outcome::Committed) => {
-                databases.give(mode, &name, &names, after, done.stores)?;
-                return Ok(TxEnd {
-                    trace: TxTrace {
-                        number: done.number,
-                        mode,
-                        durability: done.durability,
-                        deltas: done.deltas,
-                        lines: done.told,
-                        outcome: Outcome::Committed,
-                    },
-                    kept: kept_by(mode, done.schema),
-                });
-            }
-            Some(Outcome::Aborted { error, doubt }) => {
-                databases.give(mode, &name, &names, before, done.stores)?;
-                return Ok(TxEnd {
-                    trace: TxTrace {
-                        number: done.number,
-                        mode,
-                        durability: done.durability,
-                        deltas: Deltas::new(alloc),
-                        lines: done.told,
-                        outcome: Outcome::Aborted { error, doubt },
-                    },
-                    kept: None,
-                });
-            }
-            None => unreachable!(),
+        let Some(outcome) = end else { unreachable!() };
+        let (deltas, kept) = kept_of(alloc, mode, outcome, done.deltas, done.schema);
+        let changes = Snapshot::of(&deltas);
+        TxEnd {
+            trace: TxTrace {
+                number: done.number,
+                mode,
+                durability: done.durability,
+                deltas,
+                lines: done.told,
+                outcome,
+            },
+            kept,
+            left: LeftPart {
+                mode,
+                name,
+                names,
+                stores: done.stores,
+                changes,
+            },
         }
+    }
+}
+
+/// What a transaction with this outcome keeps: its changes, and its schema.
+fn kept_of(
+    alloc: Global,
+    mode: Mode,
+    outcome: Outcome,
+    deltas: Deltas,
+    schema: Schema,
+) -> (Deltas, Option<Schema>)
+    ensures deltas { result.0 ≡ changes_told outcome deltas }
+    ensures schema { result.1 ≡ schema_kept_by outcome mode schema }
+{
+    match outcome {
+        Outcome::Committed => (deltas, kept_by(mode, schema)),
+        Outcome::Aborted { .. } => (Deltas::new(alloc), None),
     }
 }
 

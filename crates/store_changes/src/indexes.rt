@@ -41,10 +41,16 @@ pub(crate) fn make_index<T: Tables>(
 {
     mark_laws();
     match place_of(&store.info().indexes, &info.name) {
-        Some(_) => Err(ChangeError::Missing),
+        Some(_) => {
+            drop(info);
+            Err(ChangeError::Missing)
+        }
         None => match store.add_index(info) {
             Ok(()) => Ok(()),
-            Err(IndexError::Constraint { key: _ }) => Err(ChangeError::Constraint),
+            Err(IndexError::Constraint { key }) => {
+                drop(key);
+                Err(ChangeError::Constraint)
+            }
             Err(IndexError::NoMemory) => Err(ChangeError::NoMemory),
         },
     }

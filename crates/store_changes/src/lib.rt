@@ -11,6 +11,3 @@ mod records;
 
 pub use error::ChangeError;
 pub use making::make_change;
-
-#[cfg(test)]
-mod tests;

@@ -34,7 +34,7 @@ pub(crate) fn set_record<T: Tables>(
     mark_laws();
     let current = store.current();
     match store.store_record(value, Some(key), false) {
-        Ok(_) => {}
+        Ok(key) => drop(key),
         Err(StoreError::Constraint) => return Err(ChangeError::Constraint),
         Err(StoreError::NoMemory) => return Err(ChangeError::NoMemory),
     }
@@ -60,11 +60,31 @@ pub(crate) fn remove_record<T: Tables>(
 {
     mark_laws();
     if store.value_of(&key).is_none() {
+        drop(key);
         return Err(ChangeError::Missing);
     }
-    let range = KeyRange::only(alloc, key)?;
-    store.delete_range(&range)?;
+    delete_only(alloc, store, key)?;
     Ok(())
+}
+
+/// Deletes what has this key.
+fn delete_only<T: Tables>(
+    alloc: Global,
+    store: &mut StoreVersion<T>,
+    key: Key,
+) -> Result<(), NoMemory>
+    ensures removed { OnOk result (store.new.store ≡ store_without_record store.old.store (key_tree_of key)) }
+    ensures unchanged { OnErr result (store.new.store ≡ store.old.store) }
+    ensures past { KeepsPast store.old store.new }
+{
+    mark_laws();
+    let range = KeyRange::only(alloc, key)?;
+    let deleted = store.delete_range(&range);
+    drop(range);
+    match deleted {
+        Ok(_) => Ok(()),
+        Err(e) => Err(e),
+    }
 }
 
 /// The generator has this current number.

@@ -4,6 +4,3 @@
 mod shown;
 
 pub use shown::{Member, member_at, member_laws, take_turn};
-
-#[cfg(test)]
-mod tests;

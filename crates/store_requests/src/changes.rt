@@ -89,7 +89,23 @@ fn note_stored<T: Tables>(
         ++ record_changes names.now (key_tree_of key.now)
         (finite.get store.now.store.records (key_tree_of key.now)))) }
 {
-    let after = store.current();
+    note_number(alloc, before, store.current(), names, changes)?;
+    match store.value_of(key) {
+        Some(value) => note_record(alloc, names, key, value, changes),
+        None => Ok(()),
+    }
+}
+
+/// Notes the generator's number, where it is another one than before.
+fn note_number(
+    alloc: Global,
+    before: u64,
+    after: u64,
+    names: &StoreNames,
+    changes: &mut Deltas,
+) -> Result<(), NoMemory>
+    ensures { OnOk result (changes.new ≡ changes.old ++ number_changes names.now before after) }
+{
     if before != after {
         changes.push(Delta::Current {
             db: names.database.copy(alloc)?,
@@ -97,15 +113,26 @@ fn note_stored<T: Tables>(
             current: after,
         })?;
     }
-    if let Some(value) = store.value_of(key) {
-        changes.push(Delta::Put {
-            db: names.database.copy(alloc)?,
-            store: names.store.copy(alloc)?,
-            key: key.copy(alloc)?,
-            value: copy_value(alloc, value)?,
-        })?;
-    }
     Ok(())
+}
+
+/// Notes the record of this key.
+fn note_record(
+    alloc: Global,
+    names: &StoreNames,
+    key: &Key,
+    value: &Value,
+    changes: &mut Deltas,
+) -> Result<(), NoMemory>
+    ensures { OnOk result (changes.new ≡ changes.old
+        ++ record_changes names.now (key_tree_of key.now) (Some (tree_of value.now))) }
+{
+    changes.push(Delta::Put {
+        db: names.database.copy(alloc)?,
+        store: names.store.copy(alloc)?,
+        key: key.copy(alloc)?,
+        value: copy_value(alloc, value)?,
+    })
 }
 
 /// `delete`, and a cursor's: the records in range go. It answers Undefined. After `NoMemory` the changes may be short of what was

@@ -11,6 +11,3 @@ pub use answers::{count_records, get_all_keys, get_all_values, get_key, get_valu
 pub use changes::{StoreNames, clear_store, delete_records, put_record};
 pub use cursors::{member_value, turn_cursor};
 pub use laws_of_leaving::leaving_laws;
-
-#[cfg(test)]
-mod tests;

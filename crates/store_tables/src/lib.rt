@@ -24,6 +24,3 @@ impl Tables for LeafTables {
         LeafTable::new(alloc)
     }
 }
-
-#[cfg(test)]
-mod tests;

@@ -4,7 +4,7 @@ ghost use Rattle.list_machine.specs.declared.limits.TheConstants.{GREATEST_REQUE
 ghost use Rattle.idb_calls.specs.declared.traces.TheConstants.{GREATEST_DELTA_COUNT};
 ghost use Rattle.item_changes.specs.Items.{stores_in};
 ghost use Rattle.idb_databases.specs.Stores.{AreStores};
-ghost use Rattle.tx_courses.specs.Courses.{restored, course_opened, is_past};
+ghost use Rattle.tx_courses.specs.Courses.{live_in, restored, course_opened, is_past};
 
 use crate::parts::CourseParts;
 use idb_calls::{Deltas, GREATEST_DELTA_COUNT};
@@ -113,10 +113,10 @@ impl<T: Tables> Course<T> {
         self.changes = Deltas::new(self.alloc);
     }
 
-    /// The schema, the stores as they are now, and the changes; what was changed can't be undone any more. It takes no memory.
+    /// The schema, the stores with the database before and now, and the changes. It takes no memory.
     pub fn into_parts(self) -> CourseParts<T>
         ensures schema { result.schema ≡ self.schema }
-        ensures stores { result.stores ≡ stores_in self.database }
+        ensures stores { result.stores ≡ live_in self }
         ensures changes { result.changes ≡ self.changes }
     {
         let Course {
@@ -127,7 +127,7 @@ impl<T: Tables> Course<T> {
         } = self;
         CourseParts {
             schema,
-            stores: stores.into_stores(),
+            stores,
             changes,
         }
     }

@@ -15,6 +15,3 @@ pub use changing::run_change;
 pub use course::Course;
 pub use opening::opening_changes;
 pub use parts::CourseParts;
-
-#[cfg(test)]
-mod tests;

@@ -7,7 +7,7 @@ ghost use Rattle.clone_values.specs.View.{key_tree_of};
 ghost use Rattle.value_bytes.specs.KeySpelling.{SpellsKey, key_spelling_of, keys_field};
 ghost use Rattle.value_bytes.specs.Writing.{BeginsWith};
 
-use crate::put_fields::{put_byte, put_count, put_number, put_string};
+use crate::put_fields::{put_byte, put_count, put_kind_number, put_kind_string};
 use clone_values::{Key, Keys};
 use idb_base::NoMemory;
 
@@ -36,22 +36,10 @@ fn put_key(out: &mut Vec<u8>, key: &Key) -> Result<(), NoMemory>
     ensures front { OnErr result (BeginsWith out.old.items out.new.items) }
 {
     match key {
-        Key::Number(n) => {
-            put_byte(out, 0x21)?;
-            put_number(out, *n)
-        }
-        Key::Date(d) => {
-            put_byte(out, 0x22)?;
-            put_number(out, *d)
-        }
-        Key::Text(s) => {
-            put_byte(out, 0x23)?;
-            put_string(out, s.as_str().as_bytes())
-        }
-        Key::Binary(b) => {
-            put_byte(out, 0x24)?;
-            put_string(out, b.as_slice())
-        }
+        Key::Number(n) => put_kind_number(out, 0x21, *n),
+        Key::Date(d) => put_kind_number(out, 0x22, *d),
+        Key::Text(s) => put_kind_string(out, 0x23, s.as_str().as_bytes()),
+        Key::Binary(b) => put_kind_string(out, 0x24, b.as_slice()),
         Key::Array(keys) => {
             put_byte(out, 0x25)?;
             put_keys(out, keys)

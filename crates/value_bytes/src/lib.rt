@@ -29,6 +29,3 @@ pub use reading::{read_value, value_from};
 pub use sizes::value_size;
 pub use spelling_laws::{key_spelling_laws, value_spelling_laws};
 pub use writing::write_value;
-
-#[cfg(test)]
-mod tests;

@@ -55,3 +55,24 @@ pub fn put_string(out: &mut Vec<u8>, string: &[u8]) -> Result<(), NoMemory>
     out.extend_from_slice(string)?;
     Ok(())
 }
+
+/// Puts the byte of a kind, and a whole number.
+#[tactic(auto, using(crate::proofs::Puts::begins_more))]
+pub(crate) fn put_kind_number(out: &mut Vec<u8>, kind: u8, number: i64) -> Result<(), NoMemory>
+    ensures written { OnOk result (out.new.items ≡ out.old.items ++ kind ∷ number_bytes number) }
+    ensures front { OnErr result (BeginsWith out.old.items out.new.items) }
+{
+    put_byte(out, kind)?;
+    put_number(out, number)
+}
+
+/// Puts the byte of a kind, the length of a text or a byte string, and its bytes.
+#[tactic(auto, using(crate::proofs::Puts::begins_more))]
+pub(crate) fn put_kind_string(out: &mut Vec<u8>, kind: u8, string: &[u8]) -> Result<(), NoMemory>
+    requires { IsWithinLimit string.now }
+    ensures written { OnOk result (out.new.items ≡ out.old.items ++ kind ∷ string_bytes string.now) }
+    ensures front { OnErr result (BeginsWith out.old.items out.new.items) }
+{
+    put_byte(out, kind)?;
+    put_string(out, string)
+}

@@ -1,11 +1,12 @@
 // Values, read from their bytes.
 ghost use Rattle.std.specs.Prelude.{ℕ, IfOk, IsErrOf};
-ghost use Rattle.clone_values.specs.Tree.{Tree};
+ghost use Rattle.clone_values.specs.Tree.{Tree, int, text, date, bytes};
 ghost use Rattle.clone_values.specs.View.{tree_of, prop_of, pair_of};
+ghost use Rattle.clone_values.specs.WellFormed.{is_int, is_date};
 ghost use Rattle.value_bytes.specs.Spelling.{ValueStands};
 ghost use Rattle.idb_base.specs.Results.{Gives};
 ghost use Rattle.idb_base.specs.declared.limits.TheConstants.{GREATEST_DEPTH};
-ghost use Rattle.value_bytes.specs.Steps.{IsUnspelled, text_at, pair_at, counted_at};
+ghost use Rattle.value_bytes.specs.Steps.{IsUnspelled, whole_number_at, string_at, text_at, mapped_at, checked_at, pair_at, counted_at};
 ghost use Rattle.value_bytes.specs.declared.kinds.Kind.TheVariants as kind;
 ghost use Rattle.value_bytes.specs.Reading.{value_at, body_at, properties_at};
 
@@ -72,15 +73,51 @@ fn body_from(
         Kind::Null => Ok(Value::Null),
         Kind::False => Ok(Value::Bool(false)),
         Kind::True => Ok(Value::Bool(true)),
-        Kind::Int => Ok(Value::Int(int_from(rest)?)),
-        Kind::Text => Ok(Value::Text(text_from(alloc, rest)?)),
-        Kind::Date => Ok(Value::Date(date_from(rest)?)),
-        Kind::Bytes => Ok(Value::Bytes(bytes_from(alloc, rest)?)),
+        Kind::Int => int_value(rest),
+        Kind::Text => text_value(alloc, rest),
+        Kind::Date => date_value(rest),
+        Kind::Bytes => bytes_value(alloc, rest),
         Kind::Array => array_from(alloc, rest, depth),
-        Kind::Object => Ok(Value::Object(props_from(alloc, rest, depth)?)),
+        Kind::Object => object_from(alloc, rest, depth),
         Kind::Map => map_from(alloc, rest, depth),
         Kind::Set => set_from(alloc, rest, depth),
     }
+}
+
+fn int_value(rest: &mut &[u8]) -> Result<Value, SpellingError>
+    ensures { Gives IsUnspelled (λ v. (tree_of v, rest.new.now)) result
+        (mapped_at int (checked_at is_int whole_number_at) rest.old.now) }
+{
+    Ok(Value::Int(int_from(rest)?))
+}
+
+fn text_value(alloc: Global, rest: &mut &[u8]) -> Result<Value, SpellingError>
+    ensures { Gives IsUnspelled
+        (λ v. (tree_of v, rest.new.now)) result (mapped_at text text_at rest.old.now) }
+{
+    Ok(Value::Text(text_from(alloc, rest)?))
+}
+
+fn date_value(rest: &mut &[u8]) -> Result<Value, SpellingError>
+    ensures { Gives IsUnspelled (λ v. (tree_of v, rest.new.now)) result
+        (mapped_at date (checked_at is_date whole_number_at) rest.old.now) }
+{
+    Ok(Value::Date(date_from(rest)?))
+}
+
+fn bytes_value(alloc: Global, rest: &mut &[u8]) -> Result<Value, SpellingError>
+    ensures { Gives IsUnspelled
+        (λ v. (tree_of v, rest.new.now)) result (mapped_at bytes string_at rest.old.now) }
+{
+    Ok(Value::Bytes(bytes_from(alloc, rest)?))
+}
+
+#[cycle(read)]
+fn object_from(alloc: Global, rest: &mut &[u8], depth: usize) -> Result<Value, SpellingError>
+    ensures { Gives IsUnspelled
+        (λ v. (tree_of v, rest.new.now)) result (body_at (value_at depth) kind.Object rest.old.now) }
+{
+    Ok(Value::Object(props_from(alloc, rest, depth)?))
 }
 
 #[cycle(read)]

@@ -1,13 +1,13 @@
 // Values, written as their bytes.
 ghost use Rattle.std.specs.Prelude.{◌≡◌, ◌++◌, OnOk, OnErr};
-ghost use Rattle.clone_values.specs.Tree.{trees_of, members_of, pairs_of};
+ghost use Rattle.clone_values.specs.Tree.{array, trees_of, members_of, pairs_of};
 ghost use Rattle.clone_values.specs.View.{tree_of};
 ghost use Rattle.clone_values.specs.Values.{IsCloneable};
 ghost use Rattle.clone_values.specs.WellFormed.{IsValue};
 ghost use Rattle.value_bytes.specs.Spelling.{SpellsValue, spelling_of, items_field, members_field, pairs_field, string_bytes};
 ghost use Rattle.value_bytes.specs.Writing.{BeginsWith};
 
-use crate::put_fields::{put_byte, put_count, put_number, put_string};
+use crate::put_fields::{put_byte, put_count, put_kind_number, put_kind_string, put_string};
 use clone_values::{Items, Pair, Pairs, Prop, Props, Value};
 use idb_base::NoMemory;
 
@@ -30,7 +30,7 @@ pub fn write_value(out: &mut Vec<u8>, v: &Value) -> Result<(), NoMemory>
 }
 
 #[cycle(put)]
-#[tactic(auto, using(clone_values::specs::Falls::smaller_tree, crate::proofs::Puts::begins_more, crate::proofs::Puts::begins_two_more))]
+#[tactic(auto, using(clone_values::specs::Falls::smaller_tree, crate::proofs::Puts::begins_more))]
 fn put_value(out: &mut Vec<u8>, v: &Value) -> Result<(), NoMemory>
     ensures written { OnOk result (out.new.items ≡ out.old.items ++ spelling_of (tree_of v.now)) }
     ensures front { OnErr result (BeginsWith out.old.items out.new.items) }
@@ -40,27 +40,11 @@ fn put_value(out: &mut Vec<u8>, v: &Value) -> Result<(), NoMemory>
         Value::Null => put_byte(out, 0x01),
         Value::Bool(false) => put_byte(out, 0x02),
         Value::Bool(true) => put_byte(out, 0x03),
-        Value::Int(n) => {
-            put_byte(out, 0x04)?;
-            put_number(out, *n)
-        }
-        Value::Text(s) => {
-            put_byte(out, 0x05)?;
-            put_string(out, s.as_str().as_bytes())
-        }
-        Value::Date(d) => {
-            put_byte(out, 0x06)?;
-            put_number(out, *d)
-        }
-        Value::Bytes(b) => {
-            put_byte(out, 0x07)?;
-            put_string(out, b.as_slice())
-        }
-        Value::Array(items, props) => {
-            put_byte(out, 0x08)?;
-            put_items(out, items)?;
-            put_props(out, props)
-        }
+        Value::Int(n) => put_kind_number(out, 0x04, *n),
+        Value::Text(s) => put_kind_string(out, 0x05, s.as_str().as_bytes()),
+        Value::Date(d) => put_kind_number(out, 0x06, *d),
+        Value::Bytes(b) => put_kind_string(out, 0x07, b.as_slice()),
+        Value::Array(items, props) => put_array(out, items, props),
         Value::Object(props) => {
             put_byte(out, 0x09)?;
             put_props(out, props)
@@ -76,6 +60,18 @@ fn put_value(out: &mut Vec<u8>, v: &Value) -> Result<(), NoMemory>
         // no cloneable value has one
         Value::Function => put_byte(out, 0xff),
     }
+}
+
+#[cycle(put)]
+#[tactic(auto, using(crate::proofs::Puts::begins_more, crate::proofs::Puts::begins_two_more))]
+fn put_array(out: &mut Vec<u8>, items: &Items, props: &Props) -> Result<(), NoMemory>
+    ensures written { OnOk result (out.new.items
+        ≡ out.old.items ++ spelling_of (array (trees_of items.now) (members_of props.now))) }
+    ensures front { OnErr result (BeginsWith out.old.items out.new.items) }
+{
+    put_byte(out, 0x08)?;
+    put_items(out, items)?;
+    put_props(out, props)
 }
 
 #[cycle(put)]

@@ -10,8 +10,10 @@ use Rattle.serde_json.proofs.Views.{Entry}
 use Rattle.value_json.specs.Marks.{mark_in, is_full_array, any_marked}
 use Rattle.value_json.specs.declared.marks.Mark.{Mark}
 use Rattle.value_json.specs.declared.marks.Mark.TheVariants as mark
-use Rattle.value_json.specs.Reading.{int_in, date_in, text_in, bytes_in, short_list, plain_object, full_array, named_in, tree_in, object_in, marked_in, list_in, pair_list_in, trees_in, pairs_in, members_in}
-use Rattle.value_json.specs.Levels.{Level, leaf, named_items_level, named_members_level, members_level, lists_level, marked_level, object_level, level_in, made_of}
+use Rattle.value_json.specs.declared.error.JsonError.{JsonError}
+use Rattle.value_json.specs.declared.error.JsonError.TheVariants.{Spelling, NoMemory}
+use Rattle.value_json.specs.Reading.{IsUnread, int_in, date_in, text_in, bytes_in, short_list, plain_object, full_array, named_in, tree_in, object_in, marked_in, list_in, pair_list_in, trees_in, pairs_in, members_in}
+use Rattle.value_json.specs.Levels.{Level, leaf, items_level, named_items_level, named_members_level, entries_level, set_level, members_level, short_in, lists_level, marked_level, object_level, level_in, made_of}
 use Rattle.value_json.specs.Laws.{ReadsByLevels}
 
 a_leaf : (o : Option Tree) → o ≡ option_and_then made_of (option_map leaf o)
@@ -88,3 +90,23 @@ by_levels (json.object ms) = by (any_marked ms) (nat_le (members_len ms) 4294967
 pub two_members_level : (es left more : List Entry) (m o : Entry) → es ≡ m ∷ left → left ≡ o ∷ more → more ≡ [] → is_full_array (string_bytes m.0) (string_bytes o.0) ≡ true
     → object_level (members_view es) ≡ lists_level (view m.1) (view o.1)
 two_members_level es left more m o first second end names = rw (first, second, end, names) refl
+
+-- a level that is read where its value is
+pub unread_leaf : (e : JsonError) (o : Option Tree) → IsUnread e o → IsUnread e (option_map leaf o)
+unread_leaf Spelling o h = rw h refl
+unread_leaf NoMemory o h = tt
+
+-- a list that is too long behind a mark
+no_list : (m : Mark) (ds : Items) → short_in ds ≡ None → marked_level (Some m) (json.array ds) ≡ None
+no_list mark.Undefined ds h = refl
+no_list mark.Function ds h = refl
+no_list mark.Date ds h = refl
+no_list mark.Bytes ds h = refl
+no_list mark.Array ds h = ap (option_map items_level) h
+no_list mark.Object ds h = ap (option_map named_members_level) h
+no_list mark.Map ds h = ap (option_map entries_level) h
+no_list mark.Set ds h = ap (option_map set_level) h
+
+pub unread_list : (e : JsonError) (m : Mark) (ds : Items) → IsUnread e (short_in ds) → IsUnread e (marked_level (Some m) (json.array ds))
+unread_list Spelling m ds h = no_list m ds h
+unread_list NoMemory m ds h = tt

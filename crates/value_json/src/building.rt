@@ -1,12 +1,13 @@
 // Sets, Maps and named properties out of what a list gave.
 ghost use Rattle.std.specs.Prelude.{◌≡◌, [], map, length, Some, None, option_and_then, IfOk};
 ghost use Rattle.idb_base.specs.Lists.{IsWithinLimit};
+ghost use Rattle.clone_values.specs.Tree.{Tree};
 ghost use Rattle.clone_values.specs.View.{tree_of, prop_of, pair_of};
 ghost use Rattle.idb_base.specs.Results.{Gives};
 ghost use Rattle.value_json.specs.Reading.{IsUnread, set_of, map_of, each_named, named_one, named_apart};
 
 use crate::JsonError;
-use clone_values::{Items, Pair, Pairs, Prop, Props, Value, is_array_name};
+use clone_values::{Items, Pair, Pairs, Prop, Props, Text, Value, is_array_name};
 use idb_base::NoMemory;
 use std::alloc::Global;
 use value_members::{MapBuilder, SetBuilder};
@@ -64,23 +65,28 @@ fn each_named(alloc: Global, pairs: Vec<Pair>, of_array: bool) -> Result<Vec<Pro
 {
     let mut props = Vec::new(alloc);
     for pair in pairs {
-        props.push(named_one(pair, of_array)?)?;
+        props.push(named_one(pair.key, pair.value, of_array)?)?;
     }
     Ok(props)
 }
 
 // A property whose name is a text that is allowed.
-fn named_one(pair: Pair, of_array: bool) -> Result<Prop, JsonError>
-    ensures { Gives IsUnread prop_of result (named_one of_array (tree_of pair.key) (tree_of pair.value)) }
+fn named_one(key: Value, value: Value, of_array: bool) -> Result<Prop, JsonError>
+    ensures { Gives IsUnread prop_of result (named_one of_array (tree_of key) (tree_of value)) }
 {
-    let Pair { key, value } = pair;
-    match key {
-        Value::Text(name) => {
-            if of_array && !is_array_name(name.as_str()) {
-                return Err(JsonError::Spelling);
-            }
-            Ok(Prop { name, value })
-        }
-        _ => Err(JsonError::Spelling),
+    let name = name_in(key, of_array)?;
+    Ok(Prop { name, value })
+}
+
+// A text that is allowed as a name, of whatever value.
+fn name_in(key: Value, of_array: bool) -> Result<Text, JsonError>
+    ensures { (v : Tree) → Gives IsUnread (λ n. (n, v)) result (named_one of_array (tree_of key) v) }
+{
+    let Value::Text(name) = key else {
+        return Err(JsonError::Spelling);
+    };
+    if of_array && !is_array_name(name.as_str()) {
+        return Err(JsonError::Spelling);
     }
+    Ok(name)
 }

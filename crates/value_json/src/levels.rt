@@ -1,10 +1,13 @@
 // One level of a value's document, with what the value holds still unread.
-ghost use Rattle.std.specs.Prelude.{◌≡◌, IfOk};
+ghost use Rattle.std.specs.Prelude.{◌≡◌, Option, Some, option_map, IfOk};
+ghost use Rattle.clone_values.specs.Tree.{Tree};
+ghost use Rattle.clone_values.specs.View.{tree_of};
+ghost use Rattle.serde_json.specs.Data.{object, array};
 ghost use Rattle.serde_json.specs.View.{view, items_view, members_view};
 ghost use Rattle.idb_base.specs.Lists.{IsWithinLimit};
 ghost use Rattle.idb_base.specs.Results.{Gives};
 ghost use Rattle.value_json.specs.Reading.{IsUnread};
-ghost use Rattle.value_json.specs.Levels.{level_in, object_level, marked_level, lists_level, short_in, few_in, level_seen, IsShort};
+ghost use Rattle.value_json.specs.Levels.{leaf, level_in, object_level, marked_level, lists_level, short_in, few_in, level_seen, IsShort};
 
 use crate::JsonError;
 use crate::marks::{Mark, any_marked, is_full_array, mark_of};
@@ -42,16 +45,31 @@ pub fn level_of<'a>(alloc: Global, json: &'a Json) -> Result<Level<'a>, JsonErro
     match json {
         Json::Null => Ok(Level::Leaf(Value::Null)),
         Json::Bool(b) => Ok(Level::Leaf(Value::Bool(*b))),
-        Json::Number(number) => Ok(Level::Leaf(read_int(number)?)),
-        Json::String(text) => Ok(Level::Leaf(read_text(alloc, text.as_str())?)),
-        Json::Array(list) => Ok(Level::Array(short(list)?)),
-        Json::Object(members) => {
-            if any_marked(members) {
-                return object_level(alloc, members);
-            }
-            Ok(Level::Object(few(members)?))
-        }
+        Json::Number(number) => leaf(read_int(number)),
+        Json::String(text) => leaf(read_text(alloc, text.as_str())),
+        Json::Array(list) => list_level(Mark::Array, list),
+        Json::Object(members) => members_level(alloc, members),
     }
+}
+
+// The level of a value that holds no other.
+fn leaf<'a>(value: Result<Value, JsonError>) -> Result<Level<'a>, JsonError>
+    ensures read { (read : Option Tree) → Gives IsUnread tree_of value read
+        → Gives IsUnread level_seen result (option_map leaf read) }
+    ensures short { IfOk result IsShort }
+{
+    Ok(Level::Leaf(value?))
+}
+
+// The members of an object.
+fn members_level<'a>(alloc: Global, members: &'a Map<String, Json>) -> Result<Level<'a>, JsonError>
+    ensures read { Gives IsUnread level_seen result (level_in (object (members_view members.now.entries))) }
+    ensures short { IfOk result IsShort }
+{
+    if any_marked(members) {
+        return object_level(alloc, members);
+    }
+    Ok(Level::Object(few(members)?))
 }
 
 // An object with a name that begins with `$`.
@@ -126,14 +144,25 @@ fn marked_level<'a>(
     match (mark, json) {
         (Some(Mark::Undefined), Json::Null) => Ok(Level::Leaf(Value::Undefined)),
         (Some(Mark::Function), Json::Null) => Ok(Level::Leaf(Value::Function)),
-        (Some(Mark::Date), Json::Number(number)) => Ok(Level::Leaf(read_date(number)?)),
-        (Some(Mark::Bytes), Json::String(text)) => {
-            Ok(Level::Leaf(read_bytes(alloc, text.as_str())?))
-        }
-        (Some(Mark::Array), Json::Array(list)) => Ok(Level::Array(short(list)?)),
-        (Some(Mark::Object), Json::Array(list)) => Ok(Level::NamedObject(short(list)?)),
-        (Some(Mark::Map), Json::Array(list)) => Ok(Level::Map(short(list)?)),
-        (Some(Mark::Set), Json::Array(list)) => Ok(Level::Set(short(list)?)),
+        (Some(Mark::Date), Json::Number(number)) => leaf(read_date(number)),
+        (Some(Mark::Bytes), Json::String(text)) => leaf(read_bytes(alloc, text.as_str())),
+        (Some(mark), Json::Array(list)) => list_level(mark, list),
+        _ => Err(JsonError::Spelling),
+    }
+}
+
+// A list behind the one name of an object.
+fn list_level<'a>(mark: Mark, list: &'a Vec<Json>) -> Result<Level<'a>, JsonError>
+    ensures read { Gives IsUnread level_seen result
+        (marked_level (Some mark) (array (items_view list.now.items))) }
+    ensures short { IfOk result IsShort }
+{
+    let list = short(list)?;
+    match mark {
+        Mark::Array => Ok(Level::Array(list)),
+        Mark::Object => Ok(Level::NamedObject(list)),
+        Mark::Map => Ok(Level::Map(list)),
+        Mark::Set => Ok(Level::Set(list)),
         _ => Err(JsonError::Spelling),
     }
 }

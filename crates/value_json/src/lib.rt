@@ -11,8 +11,6 @@ mod levels;
 mod marks;
 mod parts;
 mod reading;
-#[cfg(test)]
-mod tests;
 mod text;
 mod tokens;
 mod writing;

@@ -1,5 +1,6 @@
 // Reads documents, by the nesting of their values.
 ghost use Rattle.std.specs.Prelude.{◌≡◌, ◌≤◌, ◌<◌, [], length, Bool, false, true, None, Some, map, option_map, IfOk, IsErrOf, OnOk};
+ghost use Rattle.serde_json.specs.Data.{array};
 ghost use Rattle.serde_json.specs.View.{view, items_view, members_view};
 ghost use Rattle.serde_json.specs.Events.{items_len, members_len};
 ghost use Rattle.idb_base.specs.Lists.{IsWithinLimit};
@@ -8,7 +9,8 @@ ghost use Rattle.clone_values.specs.Names.{set_members};
 ghost use Rattle.clone_values.specs.View.{tree_of, pair_of};
 ghost use Rattle.clone_values.specs.WellFormed.{IsValue};
 ghost use Rattle.idb_base.specs.Results.{Gives};
-ghost use Rattle.value_json.specs.Reading.{IsUnread, tree_in, object_in, marked_in, full_array, list_in, pair_list_in, trees_in, members_in, pair_in, pairs_in, short_list, named_in};
+ghost use Rattle.value_json.specs.Reading.{IsUnread, tree_in, object_in, marked_in, full_array, list_in, pair_list_in, trees_in, members_in, pair_in, pairs_in, short_list, named_in, plain_object};
+ghost use Rattle.value_json.specs.declared.marks.Mark.TheVariants as mark;
 
 use crate::JsonError;
 use crate::building::{map_from, named_from, set_from};
@@ -39,12 +41,12 @@ fn read(alloc: Global, json: &Json) -> Result<Value, JsonError>
         Json::Bool(b) => Ok(Value::Bool(*b)),
         Json::Number(number) => read_int(number),
         Json::String(text) => read_text(alloc, text.as_str()),
-        Json::Array(list) => Ok(Value::Array(read_items(alloc, list)?, Props::new(alloc))),
+        Json::Array(list) => read_array(alloc, list),
         Json::Object(members) => {
             if any_marked(members) {
                 read_object(alloc, members)
             } else {
-                Ok(Value::Object(read_members(alloc, members)?))
+                read_members(alloc, members)
             }
         }
     }
@@ -70,7 +72,17 @@ fn read_object(alloc: Global, members: &Map<String, Json>) -> Result<Value, Json
     }
     let items = read_list(alloc, member)?;
     let pairs = read_pair_list(alloc, named)?;
-    Ok(Value::Array(items, named_from(alloc, pairs, true)?))
+    full_array(alloc, items, pairs)
+}
+
+// An Array of these items, with the properties that the pairs name.
+fn full_array(alloc: Global, items: Items, pairs: Vec<Pair>) -> Result<Value, JsonError>
+    requires { IsWithinLimit pairs.items }
+    ensures { Gives IsUnread tree_of result
+        (full_array (Some items) (named_in true (Some (map pair_of pairs.items)))) }
+{
+    let props = named_from(alloc, pairs, true)?;
+    Ok(Value::Array(items, props))
 }
 
 // What stands behind the one name of an object.
@@ -83,23 +95,50 @@ fn read_marked(alloc: Global, mark: Option<Mark>, json: &Json) -> Result<Value, 
         (Some(Mark::Function), Json::Null) => Ok(Value::Function),
         (Some(Mark::Date), Json::Number(number)) => read_date(number),
         (Some(Mark::Bytes), Json::String(text)) => read_bytes(alloc, text.as_str()),
-        (Some(Mark::Array), Json::Array(list)) => {
-            Ok(Value::Array(read_items(alloc, list)?, Props::new(alloc)))
-        }
-        (Some(Mark::Object), Json::Array(list)) => {
-            let pairs = read_pairs(alloc, list)?;
-            Ok(Value::Object(named_from(alloc, pairs, false)?))
-        }
-        (Some(Mark::Map), Json::Array(list)) => {
-            let pairs = read_pairs(alloc, list)?;
-            Ok(Value::Map(map_from(alloc, pairs)?))
-        }
-        (Some(Mark::Set), Json::Array(list)) => {
-            let values = read_values(alloc, list)?;
-            Ok(Value::Set(set_from(alloc, values)?))
-        }
+        (Some(Mark::Array), Json::Array(list)) => read_array(alloc, list),
+        (Some(Mark::Object), Json::Array(list)) => read_named(alloc, list),
+        (Some(Mark::Map), Json::Array(list)) => read_map(alloc, list),
+        (Some(Mark::Set), Json::Array(list)) => read_set(alloc, list),
         _ => Err(JsonError::Spelling),
     }
+}
+
+// An Array of the values of a list.
+#[cycle(read)]
+fn read_array(alloc: Global, list: &Vec<Json>) -> Result<Value, JsonError>
+    ensures { Gives IsUnread tree_of result
+        (marked_in (Some mark.Array) (array (items_view list.now.items))) }
+{
+    let items = read_items(alloc, list)?;
+    Ok(Value::Array(items, Props::new(alloc)))
+}
+
+// An Object of the properties of a list.
+#[cycle(read)]
+fn read_named(alloc: Global, list: &Vec<Json>) -> Result<Value, JsonError>
+    ensures { Gives IsUnread tree_of result
+        (marked_in (Some mark.Object) (array (items_view list.now.items))) }
+{
+    let pairs = read_pairs(alloc, list)?;
+    Ok(Value::Object(named_from(alloc, pairs, false)?))
+}
+
+#[cycle(read)]
+fn read_map(alloc: Global, list: &Vec<Json>) -> Result<Value, JsonError>
+    ensures { Gives IsUnread tree_of result
+        (marked_in (Some mark.Map) (array (items_view list.now.items))) }
+{
+    let pairs = read_pairs(alloc, list)?;
+    Ok(Value::Map(map_from(alloc, pairs)?))
+}
+
+#[cycle(read)]
+fn read_set(alloc: Global, list: &Vec<Json>) -> Result<Value, JsonError>
+    ensures { Gives IsUnread tree_of result
+        (marked_in (Some mark.Set) (array (items_view list.now.items))) }
+{
+    let values = read_values(alloc, list)?;
+    Ok(Value::Set(set_from(alloc, values)?))
 }
 
 #[cycle(read)]
@@ -187,12 +226,12 @@ fn read_pair(alloc: Global, json: &Json) -> Result<Pair, JsonError>
     }
 }
 
-// The properties of a plain object.
+// A plain object.
 #[cycle(read)]
 #[tactic(auto, using(crate::proofs::Documents::short_members, crate::proofs::Documents::long_members, clone_values::proofs::Laws::set_longer))]
-fn read_members(alloc: Global, members: &Map<String, Json>) -> Result<Props, JsonError>
-    ensures { Gives IsUnread (λ ms. ms) result (option_map (set_members [])
-        (short_list (members_len (members_view members.now.entries)) (members_in (members_view members.now.entries)))) }
+fn read_members(alloc: Global, members: &Map<String, Json>) -> Result<Value, JsonError>
+    ensures { Gives IsUnread tree_of result (option_map plain_object (option_map (set_members [])
+        (short_list (members_len (members_view members.now.entries)) (members_in (members_view members.now.entries))))) }
 {
     if members.len() > GREATEST_LENGTH {
         return Err(JsonError::Spelling);
@@ -206,5 +245,5 @@ fn read_members(alloc: Global, members: &Map<String, Json>) -> Result<Props, Jso
         let value = read(alloc, json)?;
         props.set(Text::copy_of(alloc, text)?, value)?;
     }
-    Ok(props)
+    Ok(Value::Object(props))
 }

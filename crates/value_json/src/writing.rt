@@ -1,9 +1,9 @@
 // Writes values and keys as documents.
-ghost use Rattle.std.specs.Prelude.{◌≡◌, map, IfOk};
+ghost use Rattle.std.specs.Prelude.{◌≡◌, true, false, map, IfOk};
 ghost use Rattle.clone_values.specs.KeyTree.{key_trees_of};
-ghost use Rattle.clone_values.specs.Tree.{bytes as bytes_tree, trees_of, members_of, pairs_of};
+ghost use Rattle.clone_values.specs.Tree.{array as array_tree, bytes as bytes_tree, object as object_tree, map_object, set_object, trees_of, members_of, pairs_of};
 ghost use Rattle.clone_values.specs.View.{tree_of, key_tree_of};
-ghost use Rattle.serde_json.specs.Data.{no_members};
+ghost use Rattle.serde_json.specs.Data.{string, no_members};
 ghost use Rattle.serde_json.specs.View.{view, members_view};
 ghost use Rattle.value_json.specs.Writing.{json_of, marked, pair_data, array_data, list_data, any_marked_name, items_json, pairs_json, named_json, members_json};
 ghost use Rattle.clone_values.specs.KeyValues.{value_of_key, values_of_keys};
@@ -24,24 +24,64 @@ pub fn value_to_json(alloc: Global, v: &Value) -> Result<Json, NoMemory>
         Value::Null => Ok(Json::Null),
         Value::Bool(b) => Ok(Json::from(*b)),
         Value::Int(n) => Ok(Json::from(*n)),
-        Value::Text(s) => Ok(Json::try_from_str(alloc, s.as_str())?),
+        Value::Text(s) => text(alloc, s.as_str()),
         Value::Date(d) => marked(alloc, "$date", Json::from(*d)),
         Value::Bytes(b) => write_bytes(alloc, b),
-        Value::Array(items, props) => {
-            let items = write_items(alloc, items)?;
-            array(alloc, items, write_named(alloc, props)?)
-        }
+        Value::Array(items, props) => write_array(alloc, items, props),
         Value::Object(props) => {
             if any_marked_name(props) {
-                marked(alloc, "$object", Json::from(write_named(alloc, props)?))
+                write_named_object(alloc, props)
             } else {
-                Ok(Json::from(write_members(alloc, props)?))
+                write_object(alloc, props)
             }
         }
-        Value::Map(pairs) => marked(alloc, "$map", Json::from(write_pairs(alloc, pairs)?)),
-        Value::Set(items) => marked(alloc, "$set", Json::from(write_items(alloc, items)?)),
+        Value::Map(pairs) => write_map(alloc, pairs),
+        Value::Set(items) => write_set(alloc, items),
         Value::Function => marked(alloc, "$function", Json::Null),
     }
+}
+
+#[cycle(write)]
+fn write_array(alloc: Global, items: &Items, props: &Props) -> Result<Json, NoMemory>
+    ensures { IfOk result (λ j. view j ≡ json_of (array_tree (trees_of items.now) (members_of props.now))) }
+{
+    let items = write_items(alloc, items)?;
+    array(alloc, items, write_named(alloc, props)?)
+}
+
+// The properties of an Object of which some name begins with `$`.
+#[cycle(write)]
+fn write_named_object(alloc: Global, props: &Props) -> Result<Json, NoMemory>
+    requires { any_marked_name (members_of props.now) ≡ true }
+    ensures { IfOk result (λ j. view j ≡ json_of (object_tree (members_of props.now))) }
+{
+    let named = write_named(alloc, props)?;
+    marked(alloc, "$object", Json::from(named))
+}
+
+// The properties of an Object of which no name begins with `$`.
+#[cycle(write)]
+fn write_object(alloc: Global, props: &Props) -> Result<Json, NoMemory>
+    requires { any_marked_name (members_of props.now) ≡ false }
+    ensures { IfOk result (λ j. view j ≡ json_of (object_tree (members_of props.now))) }
+{
+    Ok(Json::from(write_members(alloc, props)?))
+}
+
+#[cycle(write)]
+fn write_map(alloc: Global, pairs: &Pairs) -> Result<Json, NoMemory>
+    ensures { IfOk result (λ j. view j ≡ json_of (map_object (pairs_of pairs.now))) }
+{
+    let entries = write_pairs(alloc, pairs)?;
+    marked(alloc, "$map", Json::from(entries))
+}
+
+#[cycle(write)]
+fn write_set(alloc: Global, items: &Items) -> Result<Json, NoMemory>
+    ensures { IfOk result (λ j. view j ≡ json_of (set_object (trees_of items.now))) }
+{
+    let members = write_items(alloc, items)?;
+    marked(alloc, "$set", Json::from(members))
 }
 
 #[cycle(write)]
@@ -80,7 +120,7 @@ fn write_named(alloc: Global, props: &Props) -> Result<Vec<Json>, NoMemory>
     let mut written = Vec::new(alloc);
     for place in 0..props.len() {
         if let Some(prop) = props.at(place) {
-            let name = Json::try_from_str(alloc, prop.name.as_str())?;
+            let name = text(alloc, prop.name.as_str())?;
             let value = value_to_json(alloc, &prop.value)?;
             written.push(pair(alloc, name, value)?)?;
         }
@@ -110,7 +150,7 @@ pub fn key_to_json(alloc: Global, key: &Key) -> Result<Json, NoMemory>
     match key {
         Key::Number(n) => Ok(Json::from(*n)),
         Key::Date(d) => marked(alloc, "$date", Json::from(*d)),
-        Key::Text(s) => Ok(Json::try_from_str(alloc, s.as_str())?),
+        Key::Text(s) => text(alloc, s.as_str()),
         Key::Binary(b) => write_bytes(alloc, b),
         Key::Array(keys) => Ok(Json::from(write_keys(alloc, keys)?)),
     }
@@ -128,6 +168,12 @@ fn write_keys(alloc: Global, keys: &Keys) -> Result<Vec<Json>, NoMemory>
         }
     }
     Ok(written)
+}
+
+fn text(alloc: Global, s: &str) -> Result<Json, NoMemory>
+    ensures { IfOk result (λ j. view j ≡ string s.now) }
+{
+    Ok(Json::try_from_str(alloc, s)?)
 }
 
 fn marked(alloc: Global, name: &str, value: Json) -> Result<Json, NoMemory>

@@ -13,6 +13,3 @@ mod set_builder;
 pub use map_builder::MapBuilder;
 pub use once::{are_once, keys_are_once};
 pub use set_builder::SetBuilder;
-
-#[cfg(test)]
-mod tests;

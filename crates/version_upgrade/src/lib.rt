@@ -13,6 +13,3 @@ mod upgrade_laws;
 pub use applying::apply_schema;
 pub use checking::check_schema;
 pub use upgrade_laws::{name_laws, sound_law};
-
-#[cfg(test)]
-mod tests;

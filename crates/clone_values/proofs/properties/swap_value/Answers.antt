@@ -24,7 +24,7 @@ swapped ps i p w v within here same n named =
 pub returns-clause-put : goal.returns-clause-put
 returns-clause-put c =
     let within : c.args.place < length c.args.props.now.items = search rules in
-    swapped _ _ _ _ _ within c.index_mut.ensures.value c.replace.ensures.after
+    swapped _ _ _ _ _ within c.index_mut.ensures.value c.swap.ensures.x_after
 
 pub returns-clause-same_names : goal.returns-clause-same_names
 returns-clause-same_names c = names_stay _ _ _ _ c.index_mut.ensures.value

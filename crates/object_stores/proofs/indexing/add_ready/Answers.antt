@@ -1,7 +1,7 @@
 use Rattle.std.proofs.Common.{◌<◌, [], ◌∷◌, length, sym, ap, ◌∙◌, subst, arith}
 use Rattle.std.proofs.lemmas.List.{length-append}
 use Rattle.idb_schema.specs.declared.definitions.StoreInfo.{StoreInfo}
-use Rattle.indexed_records.specs.Contents.{info_without_last}
+use Rattle.range_reads.specs.Contents.{info_without_last}
 use Rattle.object_stores.specs.IsStore.{IsStoreContent}
 use Rattle.object_stores.specs.declared.changes.Change.TheVariants as change
 use Rattle.object_stores.specs.declared.changes.Parts.{Parts}

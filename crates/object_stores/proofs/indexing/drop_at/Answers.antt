@@ -2,7 +2,7 @@ use Rattle.std.proofs.Common.{◌<◌, ◌≡◌, length, sym, ap, ◌∙◌, su
 use Rattle.std.specs.List.{remove}
 use Rattle.idb_schema.specs.declared.definitions.StoreInfo.{StoreInfo}
 use Rattle.index_tables.specs.RecordRows.{index_rows}
-use Rattle.indexed_records.specs.Contents.{info_with_index_at, info_without_index}
+use Rattle.range_reads.specs.Contents.{info_with_index_at, info_without_index}
 use Rattle.object_stores.specs.IsStore.{IsStoreContent}
 use Rattle.object_stores.specs.declared.changes.Change.TheVariants as change
 use Rattle.object_stores.specs.declared.changes.Parts.{Parts}

@@ -1,13 +1,4 @@
-use Rattle.std.proofs.Common.{refl, sym, subst}
-use Rattle.idb_calls.specs.Deltas.{CreateIndex}
-use Rattle.record_changes.specs.Loosened.{MeansTheSame}
-use Rattle.record_changes.proofs.OnIndexes.{alone_means}
 use Rattle.record_changes.proofs.index_changes.make_alone.Goals as goal
 
-pub change_or_loosen-requires-clause-same : goal.change_or_loosen-requires-clause-same
-change_or_loosen-requires-clause-same g c κs within =
-    subst (MeansTheSame c.args.items.now c.args.aside.now) (sym c.in_ok-tried.ensures)
-    (alone_means c.args.items.now c.args.aside.now c.args.db.now c.args.store.now (CreateIndex c.args.db.now c.args.store.now c.args.index.name c.args.index.path c.args.index.unique c.args.index.multi) (refl, refl) c.requires.alone)
-
-pub change_kept-requires-clause-blank : goal.change_kept-requires-clause-blank
-change_kept-requires-clause-blank g c κs within = c.in_ok-change_or_loosen.ensures.blank c.requires.blank
+pub make_kept-requires-clause-blank : goal.make_kept-requires-clause-blank
+make_kept-requires-clause-blank g c κs within = c.in-Ok.ensures.blank c.requires.blank

@@ -2,7 +2,7 @@ use Rattle.std.proofs.Common.{List, subst, sym, ap, ◌∙◌}
 use Rattle.idb_desk.specs.Steps.{desk_run}
 use Rattle.session_driver.specs.declared.seats.Seat.{Seat}
 use Rattle.session_driver.specs.Choosing.{next_move}
-use Rattle.session_driver.specs.Scenes.{done_of_book}
+use Rattle.office_moves.specs.Scenes.{done_of_book}
 use Rattle.session_driver.specs.Seats.{IsDriving}
 use Rattle.session_driver.proofs.Driving.{client_chosen}
 use Rattle.session_driver.proofs.driver.advance.Goals as goal

@@ -1,4 +1,4 @@
-use Rattle.session_driver.specs.Scenes.{done_of_book}
+use Rattle.office_moves.specs.Scenes.{done_of_book}
 use Rattle.session_driver.proofs.Driving.{ends_so}
 use Rattle.session_driver.proofs.driver.drive.Goals as goal
 

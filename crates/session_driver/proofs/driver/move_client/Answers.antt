@@ -1,9 +1,9 @@
 use Rattle.std.proofs.Common.{rules, List, insert, ap, subst, sym, ◌∙◌, None}
 use Rattle.script_statements.specs.declared.script.Client.{Client}
-use Rattle.task_statements.specs.Offices.{OfficeState}
+use Rattle.office_moves.specs.Offices.{OfficeState}
+use Rattle.office_moves.specs.Moving.{IsMoveOf}
+use Rattle.office_moves.specs.Scenes.{done_of_book, scene_of, StandsOn}
 use Rattle.session_driver.specs.declared.seats.Seat.{Seat}
-use Rattle.session_driver.specs.Choosing.{IsMoveOf}
-use Rattle.session_driver.specs.Scenes.{done_of_book, scene_of, StandsOn}
 use Rattle.session_driver.proofs.Driving.{chosen_within, chosen_seat, chosen_due, seat_sits, stands_there, client_back, less_left}
 use Rattle.session_driver.proofs.driver.move_client.Goals as goal
 
@@ -15,14 +15,14 @@ new-office-requires g c =
     seat_sits c.args.of.now.value c.args.desk c.args.seats.now.items (done_of_book c.args.book.now) c.args.databases.now c.args.place c.remove-seat.result c.requires.driving
     (chosen_seat c.args.desk c.args.seats.now.items c.args.place c.args.number _ c.remove-seat.result c.args.seats.now.ok.0 c.requires.chosen c.remove-seat.ensures.value)
 
-pub move_in-requires-clause-due : goal.move_in-requires-clause-due
-move_in-requires-clause-due g c κs within =
+pub make_move-requires-clause-due : goal.make_move-requires-clause-due
+make_move-requires-clause-due g c κs within =
     subst (λ (o : OfficeState). IsMoveOf o.run o.client c.args.number) (sym c.new-office.ensures)
     (chosen_due c.args.desk c.args.seats.now.items c.args.place c.args.number c.remove-seat.result c.requires.chosen
     (chosen_seat c.args.desk c.args.seats.now.items c.args.place c.args.number _ c.remove-seat.result c.args.seats.now.ok.0 c.requires.chosen c.remove-seat.ensures.value))
 
-pub move_in-requires-clause-on : goal.move_in-requires-clause-on
-move_in-requires-clause-on g c κs within =
+pub make_move-requires-clause-on : goal.make_move-requires-clause-on
+make_move-requires-clause-on g c κs within =
     subst (λ (o : OfficeState). StandsOn None (scene_of o c.remove-seat.result.notes (done_of_book c.args.book.now) c.args.databases.now))
     (sym (c.new-office.ensures ∙ ap (λ (a : Client). record { blocks = a.blocks; client = c.remove-seat.result.client; run = c.args.desk }) c.in_ok-again.ensures))
     (stands_there c.args.of.now.value c.args.desk c.args.seats.now.items (done_of_book c.args.book.now) c.args.databases.now c.args.place c.remove-seat.result c.requires.driving
@@ -33,18 +33,18 @@ put_back-requires g c = let within = chosen_within c.args.desk c.args.seats.now.
 
 pub returns-clause-driving : goal.returns-clause-driving
 returns-clause-driving g c =
-    client_back c.args.seats.now.items c.put_back.new.seats.items c.args.place c.remove-seat.result c.move_in.new.office c.move_in.new.notes c.into_parts-desk.result.1
+    client_back c.args.seats.now.items c.put_back.new.seats.items c.args.place c.remove-seat.result c.make_move.new.office c.make_move.new.notes c.into_parts-desk.result.1
     (chosen_seat c.args.desk c.args.seats.now.items c.args.place c.args.number _ c.remove-seat.result c.args.seats.now.ok.0 c.requires.chosen c.remove-seat.ensures.value) c.into_parts-desk.ensures.client
-    (c.in_ok-put_back.ensures ∙ ap (λ (xs : List Seat). insert xs c.args.place (record { script = c.remove-seat.result.script; client = c.into_parts-desk.result.1; notes = c.move_in.new.notes })) c.remove-seat.ensures.items)
-    c.args.of.now.value c.args.desk (done_of_book c.args.book.now) (done_of_book c.move_in.new.book) c.args.databases.now c.move_in.new.databases c.new-office.result c.into_parts-desk.result.0 c.requires.driving
+    (c.in_ok-put_back.ensures ∙ ap (λ (xs : List Seat). insert xs c.args.place (record { script = c.remove-seat.result.script; client = c.into_parts-desk.result.1; notes = c.make_move.new.notes })) c.remove-seat.ensures.items)
+    c.args.of.now.value c.args.desk (done_of_book c.args.book.now) (done_of_book c.make_move.new.book) c.args.databases.now c.make_move.new.databases c.new-office.result c.into_parts-desk.result.0 c.requires.driving
     (c.new-office.ensures ∙ ap (λ (a : Client). record { blocks = a.blocks; client = c.remove-seat.result.client; run = c.args.desk }) c.in_ok-again.ensures)
-    c.in_ok-move_in.ensures.leads c.into_parts-desk.ensures.desk
+    c.in_ok-make_move.ensures.leads c.into_parts-desk.ensures.desk
 
 pub returns-clause-less : goal.returns-clause-less
 returns-clause-less g c =
-    less_left c.args.seats.now.items c.put_back.new.seats.items c.args.place c.remove-seat.result c.move_in.new.office c.move_in.new.notes c.into_parts-desk.result.1
+    less_left c.args.seats.now.items c.put_back.new.seats.items c.args.place c.remove-seat.result c.make_move.new.office c.make_move.new.notes c.into_parts-desk.result.1
     (chosen_seat c.args.desk c.args.seats.now.items c.args.place c.args.number _ c.remove-seat.result c.args.seats.now.ok.0 c.requires.chosen c.remove-seat.ensures.value) c.into_parts-desk.ensures.client
-    (c.in_ok-put_back.ensures ∙ ap (λ (xs : List Seat). insert xs c.args.place (record { script = c.remove-seat.result.script; client = c.into_parts-desk.result.1; notes = c.move_in.new.notes })) c.remove-seat.ensures.items)
-    (done_of_book c.args.book.now) (done_of_book c.move_in.new.book) c.args.desk c.new-office.result
+    (c.in_ok-put_back.ensures ∙ ap (λ (xs : List Seat). insert xs c.args.place (record { script = c.remove-seat.result.script; client = c.into_parts-desk.result.1; notes = c.make_move.new.notes })) c.remove-seat.ensures.items)
+    (done_of_book c.args.book.now) (done_of_book c.make_move.new.book) c.args.desk c.new-office.result
     (c.new-office.ensures ∙ ap (λ (a : Client). record { blocks = a.blocks; client = c.remove-seat.result.client; run = c.args.desk }) c.in_ok-again.ensures)
-    c.in_ok-move_in.ensures.less
+    c.in_ok-make_move.ensures.less

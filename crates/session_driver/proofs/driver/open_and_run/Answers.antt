@@ -1,7 +1,8 @@
-use Rattle.std.proofs.Common.{◌≡◌, subst, sym, ap, map, ◌∙◌}
+use Rattle.std.proofs.Common.{◌≡◌, [], subst, sym, ap, map, ◌∙◌}
 use Rattle.std.specs.FinMap as finite
 use Rattle.item_changes.specs.Items.{Items}
 use Rattle.idb_databases.specs.Items.{AreItems, is_within_limits}
+use Rattle.log_history.specs.Kept.{with_doubt}
 use Rattle.legal_sessions.specs.Histories.{ShowsItems}
 use Rattle.legal_sessions.specs.Legal.{has_of}
 use Rattle.session_driver.proofs.driver.open_and_run.Goals as goal
@@ -14,6 +15,7 @@ run_to_end-requires-clause-fresh g c κs within =
       items = o.same ∙ items;
       finish = c.requires.fresh.0;
       commits = c.requires.fresh.1;
+      doubts = ap (with_doubt []) c.requires.runs;
       shows = subst (λ (is : Items). ShowsItems c.in_ok-opening.opening.schemas is) items o.shows;
       openable = o.openable;
       few = o.few;

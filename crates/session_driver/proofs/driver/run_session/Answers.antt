@@ -1,31 +1,31 @@
-use Rattle.std.proofs.Common.{◌≡◌, ap, subst, ◌∙◌}
+use Rattle.std.proofs.Common.{◌≡◌, ap, subst, sym, ◌∙◌}
 use Rattle.session_books.specs.States.{SessionBookState}
+use Rattle.office_moves.specs.Scenes.{done_of_book}
 use Rattle.session_driver.specs.Reporting.{report_told}
-use Rattle.session_driver.specs.Scenes.{done_of_book}
-use Rattle.session_driver.proofs.Ending.{reports_on, stops_on}
+use Rattle.session_driver.proofs.Ends.{reports_on, stops_on, fault_ends}
 use Rattle.session_driver.proofs.driver.run_session.Goals as goal
 
 pub returns-in-Ok-told-clause-reports : goal.returns-in-Ok-told-clause-reports
 returns-in-Ok-told-clause-reports g c =
     let book = c.open_and_run-ran.new.book in
     let ends = c.in-Ok.ensures.ends in
-    let seats = c.in-Ok.seats.items in
-    reports_on c.under_way_laws.ensures.legal c.args.session c.args.number c.in-Ok.desk seats (done_of_book book) ends.0 c.in-Ok.lines c.in-Ok-told.report c.args.opened.items book.end (g.D.Disk.shows c.into_parts-disk.result.0)
-    ends.1 ends.2 c.in-Ok.ensures.lines
+    let seats = c.in-Ok.ran.seats.items in
+    reports_on c.under_way_laws.ensures.legal c.args.session c.args.number c.in-Ok.ran.desk seats (done_of_book book) ends.0 c.in-Ok.ran.opening c.in-Ok-told.report c.args.opened.items book.end (g.D.Disk.shows c.into_parts-disk.result.0)
+    ends.1 c.in-Ok.ensures.lines
     (c.in-Ok-told.ensures
-    ∙ ap (λ ns. report_told c.in-Ok.desk seats c.in-Ok.lines ns c.into_parts-disk.result.2 c.args.number c.args.session.drop_end) c.into_parts-disk.ensures.finished
-    ∙ ap (λ ns. report_told c.in-Ok.desk seats c.in-Ok.lines book.finished ns c.args.number c.args.session.drop_end) c.into_parts-disk.ensures.committed)
-    (c.open_and_run-ran.ensures.opening ∙ ap (λ (b : SessionBookState g.row.D.Denot). b.opening) c.new-book.ensures.book)
-    c.in-Ok.ensures.end c.into_parts-disk.ensures.images
+    ∙ ap (λ ns. report_told c.in-Ok.ran.desk seats c.in-Ok.ran.opening ns c.into_parts-disk.result.2 c.args.number c.in-Ok.ran.end) c.into_parts-disk.ensures.finished
+    ∙ ap (λ ns. report_told c.in-Ok.ran.desk seats c.in-Ok.ran.opening book.finished ns c.args.number c.in-Ok.ran.end) c.into_parts-disk.ensures.committed
+    ∙ ap (report_told c.in-Ok.ran.desk seats c.in-Ok.ran.opening book.finished _ c.args.number) c.in-Ok.ensures.end)
+    (c.open_and_run-ran.ensures.goes.opening ∙ ap (λ (b : SessionBookState g.row.D.Denot). b.opening) c.new-book.ensures.book) c.into_parts-disk.ensures.images
 
 pub returns-in-Err-told-clause-stops : goal.returns-in-Err-told-clause-stops
 returns-in-Err-told-clause-stops g c =
     let book = c.open_and_run-ran.new.book in
     stops_on (done_of_book book) book.end (g.D.Disk.shows c.into_parts-disk.result.0) c.args.opened.items
-    (c.open_and_run-ran.ensures.opening ∙ ap (λ (b : SessionBookState g.row.D.Denot). b.opening) c.new-book.ensures.book) c.into_parts-disk.ensures.images
+    (c.open_and_run-ran.ensures.goes.opening ∙ ap (λ (b : SessionBookState g.row.D.Denot). b.opening) c.new-book.ensures.book) c.into_parts-disk.ensures.images
 
 pub returns-in-Err-clause-stops : goal.returns-in-Err-clause-stops
 returns-in-Err-clause-stops g c =
     let book = c.open_and_run-ran.new.book in
     stops_on (done_of_book book) book.end (g.D.Disk.shows c.into_parts-disk.result.0) c.args.opened.items
-    (c.open_and_run-ran.ensures.opening ∙ ap (λ (b : SessionBookState g.row.D.Denot). b.opening) c.new-book.ensures.book) c.into_parts-disk.ensures.images
+    (c.open_and_run-ran.ensures.goes.opening ∙ ap (λ (b : SessionBookState g.row.D.Denot). b.opening) c.new-book.ensures.book) c.into_parts-disk.ensures.images

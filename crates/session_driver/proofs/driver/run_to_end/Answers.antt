@@ -2,8 +2,9 @@ use Rattle.std.proofs.Common.{◌≡◌, List, [], subst, sym, refl, ap, ◌∙�
 use Rattle.idb_schema.specs.Schemas.{SchemaData}
 use Rattle.idb_desk.specs.Steps.{DeskRun}
 use Rattle.script_statements.specs.declared.script.ScriptSession.{ScriptSession}
+use Rattle.legal_sessions.specs.Legal.{EndsSo}
 use Rattle.session_states.specs.Sessions.{IsAtEnd}
-use Rattle.session_driver.specs.Scenes.{DoneNow, done_of_book}
+use Rattle.office_moves.specs.Scenes.{DoneNow, done_of_book}
 use Rattle.session_driver.specs.Seats.{session_seen, IsDriving}
 use Rattle.session_driver.proofs.Driving.{begins_so}
 use Rattle.session_driver.proofs.driver.run_to_end.Goals as goal
@@ -13,13 +14,16 @@ drive-requires-clause-driving g c κs within =
     let f = c.requires.fresh in
     subst (λ (s : ScriptSession). IsDriving s c.in_ok-desk.desk c.in_ok-seats.seats.items (done_of_book c.args.book.now) c.args.opening.databases) (sym c.of-of.ensures)
     (begins_so c.under_way_laws.ensures.fresh c.fitting_laws.ensures.fresh c.showing_laws.ensures.fresh c.args.session c.in_ok-desk.desk c.in_ok-seats.seats.items (done_of_book c.args.book.now) c.args.opening.databases c.args.opening.schemas
-    c.in_ok-seats.ensures.seats c.in_ok-seats.ensures.scripts c.in_ok-desk.ensures f.finish f.commits f.items f.shows f.openable f.few f.opened)
+    c.in_ok-seats.ensures.seats c.in_ok-seats.ensures.scripts c.in_ok-desk.ensures f.finish f.commits f.doubts f.items f.shows f.openable f.few f.opened)
 
 pub returns-clause-ends : goal.returns-clause-ends
 returns-clause-ends g c =
-    let same = sym c.in_ok-end_log.ensures.done in (
+    let same = sym c.in_ok-end.ensures.same in (
       c.drive.new.databases,
-      subst (λ (s : ScriptSession). IsDriving s c.in_ok-desk-2.desk c.drive.new.seats.items (done_of_book c.end_log.new.book) c.drive.new.databases) c.of-of.ensures
-          (subst (λ (d : DoneNow). IsDriving c.of-of.result.value c.in_ok-desk-2.desk c.drive.new.seats.items d c.drive.new.databases) same c.in_ok-desk-2.ensures.driving),
-      subst (λ (d : DoneNow). IsAtEnd (session_seen c.in_ok-desk-2.desk c.drive.new.seats.items d c.drive.new.databases)) same c.in_ok-desk-2.ensures.end,
+      record {
+        driving = subst (λ (s : ScriptSession). IsDriving s c.in_ok-desk-2.desk c.drive.new.seats.items (done_of_book c.end_log.new.book) c.drive.new.databases) c.of-of.ensures
+            (subst (λ (d : DoneNow). IsDriving c.of-of.result.value c.in_ok-desk-2.desk c.drive.new.seats.items d c.drive.new.databases) same c.in_ok-desk-2.ensures.driving);
+        at_end = subst (λ (d : DoneNow). IsAtEnd (session_seen c.in_ok-desk-2.desk c.drive.new.seats.items d c.drive.new.databases)) same c.in_ok-desk-2.ensures.end;
+        ends = subst (λ (d : DoneNow). EndsSo c.args.session.drop_end d.doubts c.end_log.new.book.end) same c.in_ok-end.ensures.ends;
+      },
     )

@@ -1,5 +1,5 @@
 use Rattle.client_ties.proofs.Laws.{sound_run}
-use Rattle.session_facts.proofs.Keeping.{fresh_fitting, task_fitting, event_fitting, start_fitting, turn_fitting, finish_fitting, cancel_fitting}
+use Rattle.session_facts.proofs.Keeping.{fresh_fitting, task_fitting, event_fitting, start_fitting, turn_fitting, finish_fitting, cancel_fitting, faults_fitting}
 use Rattle.session_facts.proofs.laws_of_fitting.fitting_laws.Goals as goal
 
 pub returns-clause-fresh : goal.returns-clause-fresh
@@ -28,3 +28,6 @@ returns-clause-finish c session opening now running place script before seat act
 pub returns-clause-cancel : goal.returns-clause-cancel
 returns-clause-cancel c session opening now running place script before seat acts r number told tx turns outcome e u f m found ends =
     cancel_fitting session opening now running u f c.desk_laws.ensures.numbers (sound_run c.desk_laws.ensures.numbers) place script before seat acts r number told tx turns outcome e m found ends
+
+pub returns-clause-faults : goal.returns-clause-faults
+returns-clause-faults c = faults_fitting

@@ -1,6 +1,8 @@
-use Rattle.std.proofs.Common.{refl}
+use Rattle.std.proofs.Common.{true, false, refl}
 use Rattle.client_ties.proofs.Laws.{sound_run, made_turns, grows_now, grows_event, grows_end}
+use Rattle.idb_desk.specs.Steps.{desk_run, with_step}
 use Rattle.client_machine.specs.Acts.{Makes, TakesTurn}
+use Rattle.client_machine.specs.Answering.{told_by}
 use Rattle.client_machine.specs.ClientStates.{without_tx, with_notes}
 use Rattle.client_machine.specs.ClientSteps.{with_tasks}
 use Rattle.serial_order.specs.SerialRuns.{joined_lines}
@@ -9,7 +11,7 @@ use Rattle.std.specs.Prelude.{[], ◌∷◌, Some, None}
 use Rattle.list_machine.proofs.Laws.{Below}
 use Rattle.machine_laws.proofs.Laws.{KeyLaws}
 use Rattle.session_facts.proofs.Keeping.{opens}
-use Rattle.session_facts.proofs.Shown.{fresh_shown, tame_leaves, stays_shown, finish_shown, cancel_shown}
+use Rattle.session_facts.proofs.Shown.{fresh_shown, tame_leaves, stays_shown, finish_shown, cancel_shown, faults_shown}
 use Rattle.session_facts.proofs.Starting.{fits_whole, deleted_there}
 use Rattle.session_facts.proofs.laws_of_showing.showing_laws.Goals as goal
 
@@ -41,13 +43,32 @@ returns-clause-finish c session opening now t place script before seat acts r to
     let g = grows_end (sound_run c.desk_laws.ensures.numbers) script.blocks (without_tx before.client t.number) t.number outcome tx.kind acts seat.client ends in
     finish_shown below laws session opening now place before seat r f s (opens session opening now (Some t) u f) m.seat_at t u tx outcome kept changes told acts m.made m.run (tame_leaves acts g.tame) found runs sound
 
+pub returns-clause-left : goal.returns-clause-left
+returns-clause-left c session opening now t place seat tx outcome kept changes u f s at found allowed ran sound =
+    let below : Below = record { storing_leaves = c.leaving_laws.ensures.storing; deleting_leaves = c.leaving_laws.ensures.deleting; clearing_leaves = c.leaving_laws.ensures.clearing } in
+    let laws : KeyLaws = record { formed = c.conversion_laws.ensures.key; shallow = c.conversion_laws.ensures.shallow } in
+    let leaves = step.Leaves seat.client.number t.number outcome kept in
+    (finish_shown below laws session opening now place seat seat (with_step now.run leaves) f s (opens session opening now (Some t) u f) at t u tx outcome kept changes (told_by (desk_run now.run) leaves) []
+    (refl, (refl, refl)) (c.desk_laws.ensures.allowed_step now.run leaves u.desk allowed) tt found ran sound).each
+
 pub returns-clause-cancel : goal.returns-clause-cancel
 returns-clause-cancel c session opening now running place script before seat acts r number told tx turns outcome u f s m found ends never =
     let below : Below = record { storing_leaves = c.leaving_laws.ensures.storing; deleting_leaves = c.leaving_laws.ensures.deleting; clearing_leaves = c.leaving_laws.ensures.clearing } in
     let laws : KeyLaws = record { formed = c.conversion_laws.ensures.key; shallow = c.conversion_laws.ensures.shallow } in
     let g = grows_end (sound_run c.desk_laws.ensures.numbers) script.blocks (with_notes (without_tx before.client number) (joined_lines turns)) number outcome tx.kind acts seat.client ends in
     let made = made_turns before.client.number number now.run r turns (Makes (step.Leaves before.client.number number outcome None) told ∷ acts) m.made in
-    cancel_shown below laws session opening now place before seat r f s (opens session opening now running u f) m.seat_at running u number tx outcome turns told acts made m.run (tame_leaves acts g.tame) found never
+    cancel_shown below laws session opening now place before seat r f s (opens session opening now running u f) m.seat_at running u number tx false outcome turns told acts made m.run (tame_leaves acts g.tame) found never
+
+pub returns-clause-end_by_host : goal.returns-clause-end_by_host
+returns-clause-end_by_host c session opening now running place script before seat acts r number told tx turns outcome u f s m found ends never =
+    let below : Below = record { storing_leaves = c.leaving_laws.ensures.storing; deleting_leaves = c.leaving_laws.ensures.deleting; clearing_leaves = c.leaving_laws.ensures.clearing } in
+    let laws : KeyLaws = record { formed = c.conversion_laws.ensures.key; shallow = c.conversion_laws.ensures.shallow } in
+    let g = grows_end (sound_run c.desk_laws.ensures.numbers) script.blocks (with_notes (without_tx before.client number) (joined_lines turns)) number outcome tx.kind acts seat.client ends in
+    let made = made_turns before.client.number number now.run r turns (Makes (step.Leaves before.client.number number outcome None) told ∷ acts) m.made in
+    cancel_shown below laws session opening now place before seat r f s (opens session opening now running u f) m.seat_at running u number tx true outcome turns told acts made m.run (tame_leaves acts g.tame) found never
+
+pub returns-clause-faults : goal.returns-clause-faults
+returns-clause-faults c now f s run = faults_shown now (record { openable = f.openable; few = f.few }) s run
 
 pub returns-clause-whole : goal.returns-clause-whole
 returns-clause-whole c = fits_whole

@@ -4,7 +4,7 @@ use Rattle.std.proofs.Common.{◌∷◌}
 use Rattle.idb_desk.specs.declared.steps.DeskStep.TheVariants as step
 use Rattle.client_ties.proofs.Laws.{sound_run, grows_now, grows_event}
 use Rattle.session_states.proofs.Moving.{tame_under_way, start_under_way, turn_under_way}
-use Rattle.session_states.proofs.Finishing.{finish_under_way, cancel_under_way}
+use Rattle.session_states.proofs.Finishing.{finish_under_way, cancel_under_way, host_under_way, doubt_under_way, aborted_undone}
 use Rattle.session_states.proofs.laws_of_steps.step_laws.Goals as goal
 
 pub returns-clause-task : goal.returns-clause-task
@@ -33,3 +33,14 @@ returns-clause-finish c session opening now t place script before seat acts r to
 pub returns-clause-cancel : goal.returns-clause-cancel
 returns-clause-cancel c session opening now place script before seat acts r told tx number turns outcome u m least idle found waits gone never =
     cancel_under_way (sound_run c.desk_laws.ensures.numbers) session opening now place script before seat told acts r tx idle number turns outcome u least waits never m found gone
+
+pub returns-clause-doubt : goal.returns-clause-doubt
+returns-clause-doubt c session opening now t place script before seat acts r told tx outcome kept changes u m idle found ran gone runs doubt =
+    doubt_under_way (sound_run c.desk_laws.ensures.numbers) session opening now place script before seat told acts r tx idle t outcome kept changes u ran doubt runs m found gone
+
+pub returns-clause-end_by_host : goal.returns-clause-end_by_host
+returns-clause-end_by_host c session opening now place script before seat acts r told tx number turns outcome u faulted m least idle found waits gone never =
+    host_under_way (sound_run c.desk_laws.ensures.numbers) session opening now place script before seat told acts r tx idle number turns outcome u faulted least waits never m found gone
+
+pub returns-clause-undone : goal.returns-clause-undone
+returns-clause-undone c = aborted_undone

@@ -15,7 +15,7 @@ new-live-requires-after_bounds g c κs within = ready_as c.args.parts.mode c.arg
 pub invariant_of-result : goal.invariant_of-result
 invariant_of-result g c = running_seen c.args.parts.mode c.args.parts.schema c.args.parts.names c.args.parts.front c.args.version c.args.stores c.args.parts.threw c.requires.placed c.requires.fits
     (logs_begun c.args.parts.mode c.args.parts.schema c.args.parts.names c.args.parts.front (database_at c.args.version c.args.stores) c.args.parts.threw c.requires.placed c.loggable_change_laws.ensures.opening (λ f s b few. c.limit_laws.ensures.body f s b few) c.requires.loggable)
-    c.of-schema_before.result.value c.of-front_before.result.value c.of-schema_before.ensures c.of-front_before.ensures _ _ (first_of (cc, search rules)) (first_of (cc, search rules)) _
+    c.of-schema_before.result.value c.of-front_before.result.value c.of-schema_before.ensures c.of-front_before.ensures _ (first_of (cc, search rules)) _
     (ap (λ (l : LiveState ScriptHandler). l.state) c.new-live.ensures
     ∙ begun_as c.args.parts.mode c.args.parts.schema c.args.parts.names c.args.parts.front c.requires.placed (database_at c.args.version c.args.stores) c.args.parts.threw
     c.left_front-front.result c.new-course.result c.in_ok-changes.changes c.left_front-front.ensures

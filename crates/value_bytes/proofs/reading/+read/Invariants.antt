@@ -25,6 +25,9 @@ invariant-items_from-loop l = (length l.items.items ≤ l.counter) × (with_fron
 abbrev pub decreases-array_from : goal.decreases-array_from
 decreases-array_from l = 5 * l.depth + 3
 
+abbrev pub decreases-object_from : goal.decreases-object_from
+decreases-object_from l = 5 * l.depth + 3
+
 abbrev pub decreases-map_from : goal.decreases-map_from
 decreases-map_from l = 5 * l.depth + 3
 

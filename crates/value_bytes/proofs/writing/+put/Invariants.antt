@@ -8,6 +8,9 @@ use Rattle.value_bytes.proofs.writing.+put.Given as goal
 abbrev pub decreases-put_value : goal.decreases-put_value
 decreases-put_value l = 2 * tree_size (tree_of l.v.now)
 
+abbrev pub decreases-put_array : goal.decreases-put_array
+decreases-put_array l = 2 * (trees_size (trees_of l.items.now) + members_size (members_of l.props.now)) + 1
+
 abbrev pub decreases-put_items : goal.decreases-put_items
 decreases-put_items l = 2 * trees_size (trees_of l.items.now)
 

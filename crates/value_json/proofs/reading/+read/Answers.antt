@@ -80,15 +80,6 @@ read_object-returns-in_err-pairs t c =
     let full = two_members _ _ _ m o (sym all ∙ c.in-Some.ensures.steps) c.in-Some-next.ensures.steps c.in-None.ensures.steps.0 names in
     rw (full, c.in_ok-items.ensures) (grind (arith, common_steps))
 
-pub read_object-returns-in_err-named_from : goal.read_object-returns-in_err-named_from
-read_object-returns-in_err-named_from t c =
-    let m : Entry = (c.in-Some.name.now, c.in-Some.member.now) in
-    let o : Entry = (c.in-Some-next.other.now, c.in-Some-next.named.now) in
-    let all : c.iter-each.result ≡ c.args.members.now.entries = search rules in
-    let names : is_full_array (string_bytes m.0) (string_bytes o.0) ≡ true = search rules in
-    let full = two_members _ _ _ m o (sym all ∙ c.in-Some.ensures.steps) c.in-Some-next.ensures.steps c.in-None.ensures.steps.0 names in
-    rw (full, c.in_ok-items.ensures, c.in_ok-pairs.ensures.read) (grind (arith, common_steps))
-
 pub read_object-returns : goal.read_object-returns
 read_object-returns t c =
     let m : Entry = (c.in-Some.name.now, c.in-Some.member.now) in
@@ -96,4 +87,4 @@ read_object-returns t c =
     let all : c.iter-each.result ≡ c.args.members.now.entries = search rules in
     let names : is_full_array (string_bytes m.0) (string_bytes o.0) ≡ true = search rules in
     let full = two_members _ _ _ m o (sym all ∙ c.in-Some.ensures.steps) c.in-Some-next.ensures.steps c.in-None.ensures.steps.0 names in
-    full ∙ rw (c.in_ok-items.ensures, c.in_ok-pairs.ensures.read, c.in_ok-named_from.ensures, c.items.view_is) refl
+    rw (full, c.in_ok-items.ensures, c.in_ok-pairs.ensures.read) c.full_array.ensures

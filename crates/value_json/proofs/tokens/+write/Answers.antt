@@ -1,4 +1,5 @@
 use Rattle.std.proofs.Common.{arith}
+use Rattle.std.proofs.lemmas.Result.{on_ok_weaker}
 use Rattle.clone_values.specs.Falls.{smaller_member, smaller_pair}
 use Rattle.clone_values.specs.Tree.{trees_of}
 use Rattle.clone_values.specs.View.{prop_of, pair_of}
@@ -20,11 +21,15 @@ write_members-write_value-requires t c = let small = smaller_member c.args.props
 
 pub write_members-returns-clause-written : goal.write_members-returns-clause-written
 write_members-returns-clause-written t c =
-    whole_object c.args.props.now c.loop-place.place c.args.out.now.tokens c.loop-place.out.tokens c.end_object.new.self.tokens c.len-place-end.ensures.rising
-    (omega (arith, c.len-place-end.ensures.count, c.loop-place-test.false)) c.loop-place.invariant.written c.in_ok-end_object.ensures.ok
+    on_ok_weaker c.end_object.result
+    (whole_object c.args.props.now c.loop-place.place c.args.out.now.tokens c.loop-place.out.tokens c.end_object.new.self.tokens c.len-place-end.ensures.rising
+    (omega (arith, c.len-place-end.ensures.count, c.loop-place-test.false)) c.loop-place.invariant.written)
+    c.end_object.ensures.ok
 
 pub write_both-returns-clause-written : goal.write_both-returns-clause-written
 write_both-returns-clause-written t c =
-    named_array (items_json (trees_of c.args.items.now)) c.args.props.now c.args.out.now.tokens c.begin_marked.new.out.tokens c.write_items.new.out.tokens c.key.new.self.tokens c.write_named.new.out.tokens c.end_object.new.self.tokens
+    on_ok_weaker c.end_object.result
+    (named_array (items_json (trees_of c.args.items.now)) c.args.props.now c.args.out.now.tokens c.begin_marked.new.out.tokens c.write_items.new.out.tokens c.key.new.self.tokens c.write_named.new.out.tokens c.end_object.new.self.tokens
     (omega (arith, c.requires))
-    c.in_ok-begin_marked.ensures.written c.in_ok-write_items.ensures.written c.in_ok-key.ensures.ok c.in_ok-write_named.ensures.written c.in_ok-end_object.ensures.ok
+    c.in_ok-begin_marked.ensures.written c.in_ok-write_items.ensures.written c.in_ok-key.ensures.ok c.in_ok-write_named.ensures.written)
+    c.end_object.ensures.ok

@@ -14,6 +14,15 @@ decreases-write_items l = 2 * trees_size (trees_of l.items.now)
 abbrev pub decreases-write_both : goal.decreases-write_both
 decreases-write_both l = 2 * (trees_size (trees_of l.items.now) + members_size (members_of l.props.now)) + 1
 
+abbrev pub decreases-write_named_object : goal.decreases-write_named_object
+decreases-write_named_object l = 2 * members_size (members_of l.props.now) + 1
+
+abbrev pub decreases-write_map : goal.decreases-write_map
+decreases-write_map l = 2 * pairs_size (pairs_of l.pairs.now) + 1
+
+abbrev pub decreases-write_set : goal.decreases-write_set
+decreases-write_set l = 2 * trees_size (trees_of l.items.now) + 1
+
 abbrev pub decreases-write_pairs : goal.decreases-write_pairs
 decreases-write_pairs l = 2 * pairs_size (pairs_of l.pairs.now)
 

@@ -1,4 +1,4 @@
-use Rattle.std.proofs.Common.{◌≡◌, ◌++◌, drop, map}
+use Rattle.std.proofs.Common.{◌≡◌, ◌+◌, ◌*◌, ◌++◌, drop, map}
 use Rattle.clone_values.specs.Tree.{tree_size, trees_size, members_size, pairs_size, trees_of, members_of, pairs_of}
 use Rattle.clone_values.specs.View.{tree_of}
 use Rattle.serde_json.specs.Data.{no_members}
@@ -7,19 +7,34 @@ use Rattle.value_json.specs.Writing.{items_json, pairs_json, named_json, members
 use Rattle.value_json.proofs.writing.+write.Given as goal
 
 abbrev pub decreases-value_to_json : goal.decreases-value_to_json
-decreases-value_to_json l = tree_size (tree_of l.v.now)
+decreases-value_to_json l = 2 * tree_size (tree_of l.v.now)
 
 abbrev pub decreases-write_items : goal.decreases-write_items
-decreases-write_items l = trees_size (trees_of l.items.now)
+decreases-write_items l = 2 * trees_size (trees_of l.items.now)
 
 abbrev pub decreases-write_pairs : goal.decreases-write_pairs
-decreases-write_pairs l = pairs_size (pairs_of l.pairs.now)
+decreases-write_pairs l = 2 * pairs_size (pairs_of l.pairs.now)
 
 abbrev pub decreases-write_named : goal.decreases-write_named
-decreases-write_named l = members_size (members_of l.props.now)
+decreases-write_named l = 2 * members_size (members_of l.props.now)
 
 abbrev pub decreases-write_members : goal.decreases-write_members
-decreases-write_members l = members_size (members_of l.props.now)
+decreases-write_members l = 2 * members_size (members_of l.props.now)
+
+abbrev pub decreases-write_array : goal.decreases-write_array
+decreases-write_array l = 2 * (trees_size (trees_of l.items.now) + members_size (members_of l.props.now)) + 1
+
+abbrev pub decreases-write_named_object : goal.decreases-write_named_object
+decreases-write_named_object l = 2 * members_size (members_of l.props.now) + 1
+
+abbrev pub decreases-write_object : goal.decreases-write_object
+decreases-write_object l = 2 * members_size (members_of l.props.now) + 1
+
+abbrev pub decreases-write_map : goal.decreases-write_map
+decreases-write_map l = 2 * pairs_size (pairs_of l.pairs.now) + 1
+
+abbrev pub decreases-write_set : goal.decreases-write_set
+decreases-write_set l = 2 * trees_size (trees_of l.items.now) + 1
 
 -- ---- what is written, and then what is left, is the whole
 

@@ -2,7 +2,7 @@ use Rattle.std.proofs.Common.{Bool, sym, ap, ◌∙◌, subst}
 use Rattle.index_tables.specs.Unique.{is_broken}
 use Rattle.idb_schema.specs.Definitions.{IsStoreInfo}
 use Rattle.idb_schema.specs.declared.definitions.StoreInfo.{StoreInfo}
-use Rattle.indexed_records.specs.Contents.{Indexed}
+use Rattle.range_reads.specs.Contents.{Indexed}
 use Rattle.object_stores.specs.IsStore.{AreStored, IsCurrent}
 use Rattle.object_stores.specs.Parts.{content_in, log_in, past_in}
 use Rattle.object_stores.specs.Store.{numbered}

@@ -1,6 +1,0 @@
-use Rattle.std.proofs.lemmas.List.{map-set}
-use Rattle.clone_values.specs.View.{pair_of}
-use Rattle.clone_values.proofs.putting.replace_pair.Goals as goal
-
-pub returns : goal.returns
-returns c = map-set pair_of _ _ _

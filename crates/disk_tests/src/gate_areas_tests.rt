@@ -1,0 +1,40 @@
+// That calls succeed with ample memory.
+use gate_areas::*;
+use std::alloc::Global;
+use std::test::Fail;
+
+fn payload_of_five(alloc: Global) -> Result<Payload, Fail> {
+    let mut payload = Payload::new(alloc);
+    payload.push(5)?;
+    Ok(payload)
+}
+
+fn is_five(payload: &Payload) -> bool {
+    payload.len() == 1 && payload.at(0).copied() == Some(5) && payload.at(1).is_none()
+}
+
+fn one_batch(alloc: Global) -> Result<Batches, Fail> {
+    let payload = payload_of_five(alloc)?;
+    let mut batches = Batches::new(alloc);
+    batches.push(Batch { place: 17, payload })?;
+    Ok(batches)
+}
+
+fn is_one(batches: &Batches) -> bool {
+    batches.len() == 1
+        && matches!(batches.at(0), Some(batch) if batch.payload.as_slice() == b"\x05".as_slice())
+}
+
+#[test]
+fn bytes_are_added_one_by_one(rt: HostRuntime) -> Result<(), Fail> {
+    let payload = payload_of_five(rt.alloc())?;
+    assert!(rt; is_five(&payload));
+    Ok(())
+}
+
+#[test]
+fn batches_are_added_one_by_one(rt: HostRuntime) -> Result<(), Fail> {
+    let batches = one_batch(rt.alloc())?;
+    assert!(rt; is_one(&batches));
+    Ok(())
+}

@@ -1,6 +1,0 @@
-use Rattle.std.proofs.Common.{◌+◌, ◌*◌, ◌≤◌}
-use Rattle.idb_cursors.proofs.tests.visited.Given as goal
-
--- each turn so far took at most 190 comparisons
-abbrev pub invariant-loop-places : goal.invariant-loop-places
-invariant-loop-places g l = l.steps ≤ l.fn.steps + l.places * 190

@@ -1,4 +1,0 @@
-use Rattle.index_tables.proofs.tests.first_from.Given as goal
-
-abbrev pub ghosts-first_by : goal.ghosts-first_by
-ghosts-first_by g a = record { name = a.blank.name; parts = a.blank.parts }

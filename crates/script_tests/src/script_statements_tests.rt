@@ -1,0 +1,54 @@
+// The statements of a block by its place.
+use clone_values::Text;
+use idb_base::{Listed, NoMemory};
+use script_statements::{Block, BlockPlace, Client, Stmt};
+use std::alloc::Global;
+use std::fmt::Write;
+use std::test::Fail;
+
+fn block(alloc: Global, name: Text, stmt: Stmt) -> Result<Block, NoMemory> {
+    let mut body = Listed::new(alloc);
+    body.push(stmt)?;
+    Ok(Block { name, body })
+}
+
+// A client of two blocks, of which the first throws and the second commits.
+fn client(alloc: Global) -> Result<Client, NoMemory> {
+    let mut blocks = Listed::new(alloc);
+    let first = block(alloc, Text::copy_of(alloc, "first")?, Stmt::Throw)?;
+    blocks.push(first)?;
+    let main = block(alloc, Text::copy_of(alloc, "main")?, Stmt::Commit)?;
+    blocks.push(main)?;
+    Ok(Client { blocks, main: 1 })
+}
+
+/// Writes what the block at this place does.
+fn tell(said: &mut String, client: &Client, place: BlockPlace) {
+    match client.body_at(place) {
+        [] => {
+            let _ = write!(said, "nothing ");
+        }
+        [Stmt::Throw] => {
+            let _ = write!(said, "throw ");
+        }
+        [Stmt::Commit] => {
+            let _ = write!(said, "commit ");
+        }
+        _ => {
+            let _ = write!(said, "other ");
+        }
+    }
+}
+
+/// A block is found at its place, and past the last there is none.
+#[test]
+fn blocks_stand_at_their_places(rt: HostRuntime) -> Result<(), Fail> {
+    let mut said = String::new(rt.alloc());
+    let client = client(rt.alloc())?;
+    for place in [0, client.main, 2] {
+        tell(&mut said, &client, place);
+    }
+    drop(client);
+    assert!(rt; said.as_str() == "throw commit nothing ");
+    Ok(())
+}

@@ -1,0 +1,105 @@
+-- A session that came to its report, and one that stopped.
+--     doubt_ends, doubt_reports, still_runs how its log ends, and is said to
+--     goes_on_still, goes_on        the book behind no step, and behind several
+--     fault_ends            a report that ends by a fault is of a log that met one
+--     reports_on            what it reports is legal, and each image of the disk is found as so many of its commits as may be kept
+--     stops_on              the images alone
+use Rattle.std.proofs.Common.{◌≡◌, ◌⊎◌, ◌≤◌, ◌<◌, ℕ, ◌-◌, ◌^◌, Bool, true, false, List, [], ◌∷◌, map, inl, inr, refl, sym, ◌∙◌, ap, subst, arith}
+use Rattle.std.specs.FinMap as finite
+use Rattle.edge_traits.specs.Faults.{Rose}
+use Rattle.disk_trait.specs.Disk.{DiskView, EachImage}
+use Rattle.idb_desk.specs.Steps.{DeskRun}
+use Rattle.item_changes.specs.Items.{Items}
+use Rattle.log_history.specs.Batching.{Commit}
+use Rattle.log_history.specs.Kept.{End, Dropped, Flushed, FailedCommit, FailedFlush, FailedCheckpoint, with_doubt}
+use Rattle.tx_book.specs.Follows.{IsFoundKept}
+use Rattle.report_lines.specs.declared.reports.Has.{Has}
+use Rattle.report_lines.specs.declared.reports.Report.{Report}
+use Rattle.report_lines.specs.declared.reports.ReportEnd.TheVariants as end
+use Rattle.script_statements.specs.declared.script.ScriptSession.{ScriptSession}
+use Rattle.legal_sessions.specs.Legal.{has_of, EndsSo, report_end, IsLegalReport}
+use Rattle.session_books.specs.States.{SessionBookState, takes_more}
+use Rattle.session_states.specs.Sessions.{commit_numbers}
+use Rattle.office_moves.specs.Running.{BookGoesOn}
+use Rattle.office_moves.specs.Scenes.{DoneNow, is_open_end, met_fault}
+use Rattle.session_driver.specs.declared.seats.Seat.{Seat}
+use Rattle.session_driver.specs.Ending.{RanTo, ReportsOn, StopsOn}
+use Rattle.session_driver.specs.Reporting.{report_told}
+use Rattle.session_driver.proofs.Driving.{LegalLaw, session_legal}
+
+-- ---- its log
+pub doubt_ends : (drop_end : Bool) (log_end : End) → is_open_end log_end ≡ true → takes_more log_end ≡ false → EndsSo drop_end (with_doubt [] log_end) log_end
+doubt_ends drop_end Dropped opened out = cc
+doubt_ends drop_end Flushed opened out = cc
+doubt_ends drop_end (FailedCommit c) opened out = refl
+doubt_ends drop_end FailedFlush opened out = cc
+doubt_ends drop_end FailedCheckpoint opened out = cc
+
+pub doubt_reports : (log_end : End) → is_open_end log_end ≡ true → takes_more log_end ≡ false → end.Fault ≡ report_end log_end
+doubt_reports Dropped opened out = cc
+doubt_reports Flushed opened out = cc
+doubt_reports (FailedCommit c) opened out = refl
+doubt_reports FailedFlush opened out = cc
+doubt_reports FailedCheckpoint opened out = cc
+
+pub still_runs : (log_end : End) → is_open_end log_end ≡ true → takes_more log_end ≡ true → log_end ≡ Dropped
+still_runs Dropped opened more = refl
+still_runs Flushed opened more = cc
+still_runs (FailedCommit c) opened more = cc
+still_runs FailedFlush opened more = cc
+still_runs FailedCheckpoint opened more = cc
+
+-- ---- the book
+not_both : {Y : Type 0} (b : Bool) → b ≡ false → b ≡ true → Y
+not_both true p q = cc
+not_both false p q = cc
+
+pub goes_on_still : {D : Type 0} (shows : D → DiskView) (book : SessionBookState D) → BookGoesOn shows book book
+goes_on_still shows book = record { opening = refl; rose = λ before now. not_both (met_fault book.end) before now; count = omega arith; started = refl; told = refl }
+
+rose_later : (a b c : ℕ) → Rose a b → b ≤ c → Rose a c
+rose_later a b c (inl less) le = inl (omega (arith, less, le))
+rose_later a b c (inr most) le = inr (omega (arith, most, le))
+
+rose_before : (a b c : ℕ) → a ≤ b → Rose b c → Rose a c
+rose_before a b c le (inl less) = inl (omega (arith, less, le))
+rose_before a b c le (inr most) = inr most
+
+pub goes_on : {D : Type 0} (shows : D → DiskView) (old mid new : SessionBookState D) → BookGoesOn shows old mid → BookGoesOn shows mid new → BookGoesOn shows old new
+goes_on shows old mid new a b = record {
+  opening = b.opening ∙ a.opening;
+  rose = λ before now. by (met_fault mid.end) refl before now;
+  count = over a.count b.count;
+  started = b.started ∙ a.started;
+  told = b.told ∙ a.told;
+}
+  where
+    over : {m n o : ℕ} → m ≤ n → n ≤ o → m ≤ o
+    over p q = omega (arith, p, q)
+
+    by : (t : Bool) → met_fault mid.end ≡ t → met_fault old.end ≡ false → met_fault new.end ≡ true → Rose (shows old.log.disk).faults (shows new.log.disk).faults
+    by false is before now = rose_before (shows old.log.disk).faults (shows mid.log.disk).faults (shows new.log.disk).faults a.count (b.rose is now)
+    by true is before now = rose_later (shows old.log.disk).faults (shows mid.log.disk).faults (shows new.log.disk).faults (a.rose before is) b.count
+
+pub fault_ends : (log_end : End) → report_end log_end ≡ end.Fault → met_fault log_end ≡ true
+fault_ends Dropped is = cc
+fault_ends Flushed is = cc
+fault_ends (FailedCommit c) is = refl
+fault_ends FailedFlush is = refl
+fault_ends FailedCheckpoint is = refl
+
+-- ---- its report
+pub reports_on : LegalLaw → (session : ScriptSession) (number : ℕ) (r : DeskRun) (seats : List Seat) (done : DoneNow) (items : Items) (lines : List Has) (report : Report) (opening : Items) (log_end : End) (left : DiskView)
+    → RanTo session r seats done items log_end → lines ≡ map has_of (finite.entries done.opening)
+    → report ≡ report_told r seats lines done.finish (commit_numbers done.commits) number (report_end log_end)
+    → done.opening ≡ opening → EachImage left (IsFoundKept done.opening done.commits log_end) → ReportsOn session number opening report left
+reports_on law session number r seats done items lines report opening log_end left ran lines_are report_is opened images = record {
+  commits = done.commits;
+  log_end = log_end;
+  closing = items;
+  legal = subst (λ (is : Items). IsLegalReport session number is report done.commits log_end items) opened (session_legal law session number r seats done items lines log_end report ran lines_are report_is);
+  images = subst (λ (is : Items). EachImage left (IsFoundKept is done.commits log_end)) opened images;
+}
+
+pub stops_on : (done : DoneNow) (log_end : End) (left : DiskView) (opening : Items) → done.opening ≡ opening → EachImage left (IsFoundKept done.opening done.commits log_end) → StopsOn opening left
+stops_on done log_end left opening opened images = record { commits = done.commits; log_end = log_end; images = subst (λ (is : Items). EachImage left (IsFoundKept is done.commits log_end)) opened images }

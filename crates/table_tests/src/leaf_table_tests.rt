@@ -1,0 +1,175 @@
+use clone_values::Key;
+use leaf_table::*;
+use sorted_table::{FlatTable, OrderedTable, find_place};
+use std::alloc::Global;
+use std::ops::Range;
+use std::test::Fail;
+
+/// A call, with what it is called with.
+#[derive(Clone, Copy)]
+enum Step {
+    Put(i64, i64),
+    Take(i64),
+    Change(i64, i64),
+    Find(i64),
+    Nth(usize),
+    Len,
+}
+
+/// Puts an entry in if its key has none; whether it did.
+fn put_new<T: OrderedTable<Key, i64>>(table: &mut T, key: i64, value: i64) -> Result<bool, Fail> {
+    match find_place(table, &Key::Number(key)) {
+        Ok(_) => Ok(false),
+        Err(place) => {
+            table.reserve(1)?;
+            table.insert_at(place, Key::Number(key), value);
+            Ok(true)
+        }
+    }
+}
+
+/// Takes the entry of a key out.
+fn take<T: OrderedTable<Key, i64>>(table: &mut T, key: i64) -> Option<i64> {
+    match find_place(table, &Key::Number(key)) {
+        Ok(place) if place < table.len() => Some(table.remove(place).1),
+        _ => None,
+    }
+}
+
+/// Puts another value into the entry of a key.
+fn change<T: OrderedTable<Key, i64>>(table: &mut T, key: i64, value: i64) -> Option<i64> {
+    match find_place(table, &Key::Number(key)) {
+        Ok(place) if place < table.len() => Some(table.replace(place, value)),
+        _ => None,
+    }
+}
+
+/// Makes one call, and writes its answer behind those before it.
+fn make<T: OrderedTable<Key, i64>>(
+    table: &mut T,
+    step: Step,
+    told: &mut String,
+) -> Result<(), Fail> {
+    match step {
+        Step::Put(key, value) => write!(told, "{} ", put_new(table, key, value)?)?,
+        Step::Take(key) => write!(told, "{:?} ", take(table, key))?,
+        Step::Change(key, value) => write!(told, "{:?} ", change(table, key, value))?,
+        Step::Find(key) => write!(told, "{:?} ", find_place(table, &Key::Number(key)))?,
+        Step::Nth(place) => match table.nth(place) {
+            Some((Key::Number(key), value)) => write!(told, "{place}:{key}={value} ")?,
+            _ => write!(told, "{place}:- ")?,
+        },
+        Step::Len => write!(told, "{} ", table.len())?,
+    }
+    Ok(())
+}
+
+/// 701 keys put in scrambled order, and all but the multiples of 5 taken out again in another.
+fn scramble<T: OrderedTable<Key, i64>>(table: &mut T) -> Result<(), Fail> {
+    for i in 0..701i64 {
+        let _ = put_new(table, i.wrapping_mul(389) % 701, i)?;
+    }
+    for i in 0..701i64 {
+        let key = i.wrapping_mul(211) % 701;
+        if key % 5 != 0 {
+            let _ = take(table, key);
+        }
+    }
+    Ok(())
+}
+
+/// What a table of the scrambled keys answers.
+fn answers<T: OrderedTable<Key, i64>>(alloc: Global, table: &mut T) -> Result<String, Fail> {
+    let mut told = String::new(alloc);
+    scramble(table)?;
+    let steps = [
+        Step::Len,
+        Step::Nth(0),
+        Step::Nth(20),
+        Step::Nth(40),
+        Step::Nth(60),
+        Step::Nth(80),
+        Step::Nth(100),
+        Step::Nth(120),
+        Step::Nth(140),
+        Step::Nth(141),
+        Step::Find(3),
+        Step::Find(350),
+        Step::Find(351),
+        Step::Find(700),
+        Step::Find(701),
+        Step::Put(350, 1),
+        Step::Put(351, 2),
+        Step::Find(351),
+        Step::Change(351, 3),
+        Step::Take(351),
+        Step::Take(351),
+        Step::Change(351, 4),
+        Step::Len,
+    ];
+    for step in steps {
+        make(table, step, &mut told)?;
+    }
+    Ok(told)
+}
+
+/// What a plain dictionary of the same calls holds.
+const ANSWERS: &str =
+    "141 0:0=0 20:100=476 40:200=251 60:300=26 80:400=502 100:500=277 120:600=52 140:700=528 141:- Err(1) Ok(70) Err(71) Ok(140) Err(141) false true Ok(71) Some(2) Some(3) None None 141 ";
+
+#[test]
+fn leaves_answer_as_a_dictionary_does(rt: HostRuntime) -> Result<(), Fail> {
+    let mut table: LeafTable<Key, i64> = LeafTable::new(rt.alloc());
+    assert_eq!(rt; answers(rt.alloc(), &mut table)?.as_str(), ANSWERS);
+    Ok(())
+}
+
+#[test]
+fn one_run_answers_the_same(rt: HostRuntime) -> Result<(), Fail> {
+    let mut table: FlatTable<Key, i64> = FlatTable::new(rt.alloc());
+    assert_eq!(rt; answers(rt.alloc(), &mut table)?.as_str(), ANSWERS);
+    Ok(())
+}
+
+/// Writes how many leaves are in use, and how many entries are spare.
+fn tell(table: &LeafTable<Key, i64>, told: &mut String) -> Result<(), Fail> {
+    write!(told, "{}:{} ", table.leaves(), table.spare())?;
+    Ok(())
+}
+
+/// Puts keys in that rise, for which there is room.
+fn put_rising(table: &mut LeafTable<Key, i64>, keys: Range<i64>) -> Result<(), Fail> {
+    for key in keys {
+        let _ = put_new(table, key, 0)?;
+    }
+    Ok(())
+}
+
+#[test]
+fn leaves_split_and_are_given_back(rt: HostRuntime) -> Result<(), Fail> {
+    let mut table: LeafTable<Key, i64> = LeafTable::new(rt.alloc());
+    let mut told = String::new(rt.alloc());
+    tell(&table, &mut told)?;
+    table.reserve(65)?;
+    put_rising(&mut table, 0..65)?;
+    tell(&table, &mut told)?;
+    for key in 0..65i64 {
+        let _ = take(&mut table, key);
+    }
+    tell(&table, &mut told)?;
+    assert_eq!(rt; told.as_str(), "0:0 2:31 0:65 ");
+    Ok(())
+}
+
+#[test]
+fn a_full_leaf_splits_into_halves(rt: HostRuntime) -> Result<(), Fail> {
+    let mut table: LeafTable<Key, i64> = LeafTable::new(rt.alloc());
+    let mut told = String::new(rt.alloc());
+    table.reserve(64)?;
+    put_rising(&mut table, 0..64)?;
+    tell(&table, &mut told)?;
+    put_rising(&mut table, 64..65)?;
+    tell(&table, &mut told)?;
+    assert_eq!(rt; told.as_str(), "1:32 2:31 ");
+    Ok(())
+}
