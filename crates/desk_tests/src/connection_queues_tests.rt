@@ -2,14 +2,13 @@
 // upgrade, `#` blocked, `~` a versionchange, `x` a closing, `-` that a deletion may run.
 use clone_values::Text;
 use connection_queues::Queues;
-use idb_base::{GREATEST_LENGTH, NoMemory};
+use idb_base::GREATEST_LENGTH;
 use idb_keys::ErrorName;
 use idb_schema::{Schema, Schemas, StoreInfos};
 use name_queues::{ClientEvent, ConnId, Turn};
 use std::alloc::Global;
 use std::fmt::Write;
 use std::process::Abort;
-use std::test::Fail;
 
 #[derive(Clone, Copy)]
 enum Edit {
@@ -29,11 +28,9 @@ enum Edit {
     Fault,
 }
 
-fn text(alloc: Global, s: &str) -> Result<Text, NoMemory> {
-    if s.len() > GREATEST_LENGTH {
-        return Err(NoMemory);
-    }
-    Text::copy_of(alloc, s)
+fn text(rt: &impl Abort, alloc: Global, s: &str) -> Text {
+    assert!(rt; s.len() <= GREATEST_LENGTH);
+    Text::copy_of(alloc, s).expect(rt, "memory")
 }
 
 fn who(client: u32, request: u32) -> ConnId {
@@ -41,10 +38,10 @@ fn who(client: u32, request: u32) -> ConnId {
 }
 
 /// The name of another database.
-fn other_name(alloc: Global, number: u8) -> Result<Text, NoMemory> {
+fn other_name(rt: &impl Abort, alloc: Global, number: u8) -> Text {
     let mut name = String::new(alloc);
     let _ = write!(name, "e{number}");
-    text(alloc, name.as_str())
+    text(rt, alloc, name.as_str())
 }
 
 /// An event as it is written.
@@ -76,27 +73,27 @@ fn write_turn(said: &mut String, turn: Turn) {
     };
 }
 
-fn open(
-    alloc: Global,
-    queues: &mut Queues,
-    who: ConnId,
-    version: Option<u64>,
-) -> Result<(), NoMemory> {
-    queues.ask_open(who, text(alloc, "d")?, version)
+fn open(rt: &impl Abort, alloc: Global, queues: &mut Queues, who: ConnId, version: Option<u64>) {
+    queues
+        .ask_open(who, text(rt, alloc, "d"), version)
+        .expect(rt, "memory");
 }
 
-fn open_other(alloc: Global, queues: &mut Queues, who: ConnId, number: u8) -> Result<(), NoMemory> {
-    queues.ask_open(who, other_name(alloc, number)?, None)
+fn open_other(rt: &impl Abort, alloc: Global, queues: &mut Queues, who: ConnId, number: u8) {
+    queues
+        .ask_open(who, other_name(rt, alloc, number), None)
+        .expect(rt, "memory");
 }
 
-fn delete(alloc: Global, queues: &mut Queues, who: ConnId) -> Result<(), NoMemory> {
-    queues.ask_delete(who, text(alloc, "d")?)
+fn delete(rt: &impl Abort, alloc: Global, queues: &mut Queues, who: ConnId) {
+    queues
+        .ask_delete(who, text(rt, alloc, "d"))
+        .expect(rt, "memory");
 }
 
-fn make_turn(alloc: Global, queues: &mut Queues, said: &mut String) -> Result<(), NoMemory> {
-    let name = text(alloc, "d")?;
+fn make_turn(rt: &impl Abort, alloc: Global, queues: &mut Queues, said: &mut String) {
+    let name = text(rt, alloc, "d");
     write_turn(said, queues.turn(&name));
-    Ok(())
 }
 
 fn take(queues: &mut Queues, said: &mut String, client: u32) {
@@ -115,22 +112,20 @@ fn begin(queues: &mut Queues, who: ConnId) {
 }
 
 /// The schema of the database "d" at this version.
-fn schema_at(alloc: Global, version: u64) -> Result<Schema, NoMemory> {
-    Schema::new(alloc, text(alloc, "d")?, version, StoreInfos::new(alloc))
+fn schema_at(rt: &impl Abort, alloc: Global, version: u64) -> Schema {
+    Schema::new(alloc, text(rt, alloc, "d"), version, StoreInfos::new(alloc)).expect(rt, "memory")
 }
 
-fn end_upgrade(alloc: Global, queues: &mut Queues, version: Option<u64>) -> Result<(), NoMemory> {
+fn end_upgrade(rt: &impl Abort, alloc: Global, queues: &mut Queues, version: Option<u64>) {
     let kept = match version {
-        Some(version) => Some(schema_at(alloc, version)?),
+        Some(version) => Some(schema_at(rt, alloc, version)),
         None => None,
     };
-    queues.upgrade_done(&text(alloc, "d")?, kept);
-    Ok(())
+    queues.upgrade_done(&text(rt, alloc, "d"), kept);
 }
 
-fn end_delete(alloc: Global, queues: &mut Queues, kept: bool) -> Result<(), NoMemory> {
-    queues.delete_done(&text(alloc, "d")?, kept);
-    Ok(())
+fn end_delete(rt: &impl Abort, alloc: Global, queues: &mut Queues, kept: bool) {
+    queues.delete_done(&text(rt, alloc, "d"), kept);
 }
 
 fn write_version(queues: &Queues, said: &mut String, who: ConnId) {
@@ -141,52 +136,48 @@ fn write_version(queues: &Queues, said: &mut String, who: ConnId) {
 }
 
 /// Makes one edit of the database "d", and writes what it answered.
-fn make(
-    alloc: Global,
-    queues: &mut Queues,
-    said: &mut String,
-    edit: &Edit,
-) -> Result<(), NoMemory> {
+fn make(rt: &impl Abort, alloc: Global, queues: &mut Queues, said: &mut String, edit: &Edit) {
     match edit {
         Edit::Open(client, request, version) => {
-            open(alloc, queues, who(*client, *request), *version)?
+            open(rt, alloc, queues, who(*client, *request), *version)
         }
         Edit::OpenOther(client, request, number) => {
-            open_other(alloc, queues, who(*client, *request), *number)?
+            open_other(rt, alloc, queues, who(*client, *request), *number)
         }
-        Edit::Delete(client, request) => delete(alloc, queues, who(*client, *request))?,
-        Edit::Turn => make_turn(alloc, queues, said)?,
+        Edit::Delete(client, request) => delete(rt, alloc, queues, who(*client, *request)),
+        Edit::Turn => make_turn(rt, alloc, queues, said),
         Edit::Take(client) => take(queues, said, *client),
         Edit::Handled(client) => queues.handled(*client),
         Edit::Close(client, request) => queues.close(who(*client, *request)),
         Edit::Begin(client, request) => begin(queues, who(*client, *request)),
         Edit::End(client, request) => queues.tx_done(who(*client, *request)),
-        Edit::Upgraded(version) => end_upgrade(alloc, queues, Some(*version))?,
-        Edit::Aborted => end_upgrade(alloc, queues, None)?,
-        Edit::Deleted(kept) => end_delete(alloc, queues, *kept)?,
+        Edit::Upgraded(version) => end_upgrade(rt, alloc, queues, Some(*version)),
+        Edit::Aborted => end_upgrade(rt, alloc, queues, None),
+        Edit::Deleted(kept) => end_delete(rt, alloc, queues, *kept),
         Edit::Version(client, request) => write_version(queues, said, who(*client, *request)),
         Edit::Fault => queues.fault(),
     }
-    Ok(())
 }
 
 /// The queues over the database "d" of this version; at 0 there is none.
-fn queues_at(alloc: Global, version: u64) -> Result<Queues, NoMemory> {
+fn queues_at(rt: &impl Abort, alloc: Global, version: u64) -> Queues {
     let mut schemas = Schemas::new(alloc);
     if version != 0 {
-        schemas.push(schema_at(alloc, version)?)?;
+        schemas
+            .push(schema_at(rt, alloc, version))
+            .expect(rt, "memory");
     }
-    Queues::new(alloc, schemas)
+    Queues::new(alloc, schemas).expect(rt, "memory")
 }
 
 /// Makes all edits, over the database "d" of this version, and gives what was answered.
-fn run(alloc: Global, version: u64, edits: &[Edit]) -> Result<String, NoMemory> {
-    let mut queues = queues_at(alloc, version)?;
+fn run(rt: &impl Abort, alloc: Global, version: u64, edits: &[Edit]) -> String {
+    let mut queues = queues_at(rt, alloc, version);
     let mut said = String::new(alloc);
     for edit in edits {
-        make(alloc, &mut queues, &mut said, edit)?;
+        make(rt, alloc, &mut queues, &mut said, edit);
     }
-    Ok(said)
+    said
 }
 
 const DELETE_AND_OPEN: [Edit; 31] = [
@@ -224,12 +215,11 @@ const DELETE_AND_OPEN: [Edit; 31] = [
 ];
 
 #[test]
-fn delete_and_open_against_one_connection(rt: HostRuntime) -> Result<(), Fail> {
+fn delete_and_open_against_one_connection(rt: HostRuntime) {
     assert_eq!(rt;
-        run(rt.alloc(), 2, &DELETE_AND_OPEN)?.as_str(),
+        run(&rt, rt.alloc(), 2, &DELETE_AND_OPEN).as_str(),
         "m 1.1+2 m 1.2!VersionError m w1.1 1.1~2-0 w1.1 m 2.1#2-0 w1.1 m 2.1-2 r 2.1+2 m m m 3.1^0-1 v0 3.1+1 v1 e "
     );
-    Ok(())
 }
 
 const CLOSING: [Edit; 30] = [
@@ -266,12 +256,11 @@ const CLOSING: [Edit; 30] = [
 ];
 
 #[test]
-fn closing_in_an_upgrade_and_before_a_change(rt: HostRuntime) -> Result<(), Fail> {
+fn closing_in_an_upgrade_and_before_a_change(rt: HostRuntime) {
     assert_eq!(rt;
-        run(rt.alloc(), 0, &CLOSING)?.as_str(),
+        run(&rt, rt.alloc(), 0, &CLOSING).as_str(),
         "m m m 1.1^0-3 v0 1.1!AbortError closed m 1.2+3 m none m 2.1#3-4 w1.2 m 2.1^3-4 2.1!AbortError closed m 2.2+3 "
     );
-    Ok(())
 }
 
 const FAULT: [Edit; 19] = [
@@ -297,12 +286,11 @@ const FAULT: [Edit; 19] = [
 ];
 
 #[test]
-fn a_fault_closes_and_answers_all(rt: HostRuntime) -> Result<(), Fail> {
+fn a_fault_closes_and_answers_all(rt: HostRuntime) {
     assert_eq!(rt;
-        run(rt.alloc(), 5, &FAULT)?.as_str(),
+        run(&rt, rt.alloc(), 5, &FAULT).as_str(),
         "m 1.1+5 m 1.2+5 m 1.1x none 2.1!UnknownError v5 1.2x 2.2!UnknownError e "
     );
-    Ok(())
 }
 
 const LAST: [Edit; 4] = [
@@ -313,23 +301,24 @@ const LAST: [Edit; 4] = [
 ];
 
 /// Opens of sixteen names, and then of one more.
-fn seventeen_opens(alloc: Global) -> Result<Vec<Edit>, Fail> {
+fn seventeen_opens(rt: &impl Abort, alloc: Global) -> Vec<Edit> {
     let mut edits = Vec::new(alloc);
     for number in 0u8..16 {
-        edits.push(Edit::OpenOther(1, u32::from(number), number))?;
+        edits
+            .push(Edit::OpenOther(1, u32::from(number), number))
+            .expect(rt, "memory");
     }
     for last in LAST {
-        edits.push(last)?;
+        edits.push(last).expect(rt, "memory");
     }
-    Ok(edits)
+    edits
 }
 
 #[test]
-fn a_seventeenth_name_has_no_place(rt: HostRuntime) -> Result<(), Fail> {
-    let edits = seventeen_opens(rt.alloc())?;
+fn a_seventeenth_name_has_no_place(rt: HostRuntime) {
+    let edits = seventeen_opens(&rt, rt.alloc());
     assert_eq!(rt;
-        run(rt.alloc(), 0, edits.as_slice())?.as_str(),
+        run(&rt, rt.alloc(), 0, edits.as_slice()).as_str(),
         "none 1.16!QuotaExceededError e "
     );
-    Ok(())
 }

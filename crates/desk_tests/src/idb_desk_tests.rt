@@ -18,7 +18,6 @@ use scope_desk::MayStart;
 use std::alloc::Global;
 use std::fmt::Write;
 use std::process::Abort;
-use std::test::Fail;
 
 /// The least client: it makes a step where it may.
 fn make_if(desk: &mut Desk, step: DeskStep) -> Result<Option<ClientEvent>, NoMemory>
@@ -51,57 +50,58 @@ enum Edit {
     Fault,
 }
 
-fn text(alloc: Global, s: &str) -> Result<Text, NoMemory> {
-    if s.len() > GREATEST_LENGTH {
-        return Err(NoMemory);
-    }
-    Text::copy_of(alloc, s)
+fn text(rt: &impl Abort, alloc: Global, s: &str) -> Text {
+    assert!(rt; s.len() <= GREATEST_LENGTH);
+    Text::copy_of(alloc, s).expect(rt, "memory")
 }
 
 /// The name of another database.
-fn other_name(alloc: Global, number: u8) -> Result<Text, NoMemory> {
+fn other_name(rt: &impl Abort, alloc: Global, number: u8) -> Text {
     let mut name = String::new(alloc);
     let _ = write!(name, "e{number}");
-    text(alloc, name.as_str())
+    text(rt, alloc, name.as_str())
 }
 
 /// A scope: each letter is a store's name.
-fn scope_of(alloc: Global, letters: &str) -> Result<Texts, NoMemory> {
+fn scope_of(rt: &impl Abort, alloc: Global, letters: &str) -> Texts {
     let mut names = Texts::new(alloc);
     for letter in letters.chars() {
         if names.len() < 9 {
-            names.push(letter_text(alloc, letter)?)?;
+            names
+                .push(letter_text(rt, alloc, letter))
+                .expect(rt, "memory");
         }
     }
-    Ok(names)
+    names
 }
 
-fn letter_text(alloc: Global, letter: char) -> Result<Text, NoMemory> {
+fn letter_text(rt: &impl Abort, alloc: Global, letter: char) -> Text {
     let mut name = String::new(alloc);
-    name.push(letter)?;
-    text(alloc, name.as_str())
+    name.push(letter).expect(rt, "memory");
+    text(rt, alloc, name.as_str())
 }
 
 /// The schema of the database "d" at this version, with the stores "s" and "t".
-fn schema_at(alloc: Global, version: u64) -> Result<Schema, NoMemory> {
+fn schema_at(rt: &impl Abort, alloc: Global, version: u64) -> Schema {
     let mut stores = StoreInfos::new(alloc);
     for name in ["s", "t"] {
-        push_store(alloc, &mut stores, name)?;
+        push_store(rt, alloc, &mut stores, name);
     }
-    Schema::new(alloc, text(alloc, "d")?, version, stores)
+    Schema::new(alloc, text(rt, alloc, "d"), version, stores).expect(rt, "memory")
 }
 
-fn push_store(alloc: Global, stores: &mut StoreInfos, name: &str) -> Result<(), NoMemory> {
-    let name = text(alloc, name)?;
+fn push_store(rt: &impl Abort, alloc: Global, stores: &mut StoreInfos, name: &str) {
+    let name = text(rt, alloc, name);
     if stores.can_push(&name) {
-        stores.push(StoreInfo {
-            name,
-            path: None,
-            auto: false,
-            indexes: IndexInfos::new(alloc),
-        })?;
+        stores
+            .push(StoreInfo {
+                name,
+                path: None,
+                auto: false,
+                indexes: IndexInfos::new(alloc),
+            })
+            .expect(rt, "memory");
     }
-    Ok(())
 }
 
 fn write_token(said: &mut String, token: Token) {
@@ -156,23 +156,19 @@ fn asking(desk: &Desk, client: u32, name: Text, wants: Wants) -> DeskStep {
     }
 }
 
-fn asking_of_d(
-    alloc: Global,
-    desk: &Desk,
-    client: u32,
-    wants: Wants,
-) -> Result<DeskStep, NoMemory> {
-    Ok(asking(desk, client, text(alloc, "d")?, wants))
+fn asking_of_d(rt: &impl Abort, alloc: Global, desk: &Desk, client: u32, wants: Wants) -> DeskStep {
+    asking(desk, client, text(rt, alloc, "d"), wants)
 }
 
 fn asking_of_other(
+    rt: &impl Abort,
     alloc: Global,
     desk: &Desk,
     client: u32,
     number: u8,
-) -> Result<DeskStep, NoMemory> {
+) -> DeskStep {
     let wants = Wants::Open { version: None };
-    Ok(asking(desk, client, other_name(alloc, number)?, wants))
+    asking(desk, client, other_name(rt, alloc, number), wants)
 }
 
 fn closing(client: u32, request: u32) -> DeskStep {
@@ -182,20 +178,21 @@ fn closing(client: u32, request: u32) -> DeskStep {
 }
 
 fn creating(
+    rt: &impl Abort,
     alloc: Global,
     desk: &Desk,
     client: u32,
     request: u32,
     letters: &str,
     mode: Mode,
-) -> Result<DeskStep, NoMemory> {
-    Ok(DeskStep::Creates {
+) -> DeskStep {
+    DeskStep::Creates {
         number: desk.next_number(),
         who: ConnId { client, request },
-        scope: scope_of(alloc, letters)?,
+        scope: scope_of(rt, alloc, letters),
         mode,
         durability: Durability::Relaxed,
-    })
+    }
 }
 
 fn leaving(client: u32, number: u64, committed: bool) -> DeskStep {
@@ -211,36 +208,36 @@ fn leaving(client: u32, number: u64, committed: bool) -> DeskStep {
     }
 }
 
-fn upgraded(alloc: Global, client: u32, number: u64, version: u64) -> Result<DeskStep, NoMemory> {
-    Ok(DeskStep::Leaves {
+fn upgraded(rt: &impl Abort, alloc: Global, client: u32, number: u64, version: u64) -> DeskStep {
+    DeskStep::Leaves {
         client,
         number,
         outcome: Outcome::Committed,
-        kept: Some(schema_at(alloc, version)?),
-    })
+        kept: Some(schema_at(rt, alloc, version)),
+    }
 }
 
 /// The step of an edit.
-fn step_of(alloc: Global, desk: &Desk, edit: &Edit) -> Result<DeskStep, NoMemory> {
+fn step_of(rt: &impl Abort, alloc: Global, desk: &Desk, edit: &Edit) -> DeskStep {
     match edit {
         Edit::Open(client, version) => {
-            asking_of_d(alloc, desk, *client, Wants::Open { version: *version })
+            asking_of_d(rt, alloc, desk, *client, Wants::Open { version: *version })
         }
-        Edit::OpenOther(client, number) => asking_of_other(alloc, desk, *client, *number),
-        Edit::Delete(client) => asking_of_d(alloc, desk, *client, Wants::Delete),
-        Edit::Take(client) => Ok(DeskStep::Takes { client: *client }),
-        Edit::Handle(client) => Ok(DeskStep::Handles { client: *client }),
-        Edit::Close(client, request) => Ok(closing(*client, *request)),
+        Edit::OpenOther(client, number) => asking_of_other(rt, alloc, desk, *client, *number),
+        Edit::Delete(client) => asking_of_d(rt, alloc, desk, *client, Wants::Delete),
+        Edit::Take(client) => DeskStep::Takes { client: *client },
+        Edit::Handle(client) => DeskStep::Handles { client: *client },
+        Edit::Close(client, request) => closing(*client, *request),
         Edit::Create(client, request, letters, mode) => {
-            creating(alloc, desk, *client, *request, letters, *mode)
+            creating(rt, alloc, desk, *client, *request, letters, *mode)
         }
-        Edit::Start(client, number) => Ok(DeskStep::Starts {
+        Edit::Start(client, number) => DeskStep::Starts {
             client: *client,
             number: *number,
-        }),
-        Edit::Leave(client, number, committed) => Ok(leaving(*client, *number, *committed)),
-        Edit::Upgraded(client, number, version) => upgraded(alloc, *client, *number, *version),
-        Edit::Fault => Ok(DeskStep::Faults),
+        },
+        Edit::Leave(client, number, committed) => leaving(*client, *number, *committed),
+        Edit::Upgraded(client, number, version) => upgraded(rt, alloc, *client, *number, *version),
+        Edit::Fault => DeskStep::Faults,
     }
 }
 
@@ -260,15 +257,15 @@ fn write_refusal(said: &mut String, desk: &Desk, step: &DeskStep) {
 }
 
 /// A second copy of the schema that a committed upgrade left.
-fn kept_copy(alloc: Global, step: &DeskStep) -> Result<Option<Schema>, NoMemory>
-    ensures { IfOk result (λ kept. kept ≡ kept_of step.now) }
+fn kept_copy(rt: &impl Abort, alloc: Global, step: &DeskStep) -> Option<Schema>
+    ensures { result ≡ kept_of step.now }
 {
     match step {
         DeskStep::Leaves {
             kept: Some(schema),
             ..
-        } => Ok(Some(schema.copy(alloc)?)),
-        _ => Ok(None),
+        } => Some(schema.copy(alloc).expect(rt, "memory")),
+        _ => None,
     }
 }
 
@@ -281,28 +278,27 @@ fn write_answer(said: &mut String, event: Option<&ClientEvent>) {
 }
 
 /// Makes one edit, and writes what came of it.
-fn make(alloc: Global, desk: &mut Desk, said: &mut String, edit: &Edit) -> Result<(), NoMemory> {
-    let step = step_of(alloc, desk, edit)?;
+fn make(rt: &impl Abort, alloc: Global, desk: &mut Desk, said: &mut String, edit: &Edit) {
+    let step = step_of(rt, alloc, desk, edit);
     if desk.can(&step) {
         write_token(said, step.token());
-        let kept = kept_copy(alloc, &step)?;
-        let event = desk.step(step, kept)?;
+        let kept = kept_copy(rt, alloc, &step);
+        let event = desk.step(step, kept).expect(rt, "memory");
         write_answer(said, event.as_ref());
     } else {
         write_refusal(said, desk, &step);
     }
     let _ = write!(said, " ");
-    Ok(())
 }
 
 /// Makes all edits on a desk without databases, and gives what was answered.
-fn run(alloc: Global, edits: &[Edit]) -> Result<String, NoMemory> {
-    let mut desk = Desk::new(alloc, Schemas::new(alloc))?;
+fn run(rt: &impl Abort, alloc: Global, edits: &[Edit]) -> String {
+    let mut desk = Desk::new(alloc, Schemas::new(alloc)).expect(rt, "memory");
     let mut said = String::new(alloc);
     for edit in edits {
-        make(alloc, &mut desk, &mut said, edit)?;
+        make(rt, alloc, &mut desk, &mut said, edit);
     }
-    Ok(said)
+    said
 }
 
 const AN_UPGRADE: [Edit; 10] = [
@@ -319,12 +315,11 @@ const AN_UPGRADE: [Edit; 10] = [
 ];
 
 #[test]
-fn an_upgrade_and_a_transaction(rt: HostRuntime) -> Result<(), Fail> {
+fn an_upgrade_and_a_transaction(rt: HostRuntime) {
     assert_eq!(rt;
-        run(rt.alloc(), &AN_UPGRADE)?.as_str(),
+        run(&rt, rt.alloc(), &AN_UPGRADE).as_str(),
         "a1.1 e1:1^0-1 InvalidStateError s1 f1 e1:1+1 t2.1 s2 f2 no "
     );
-    Ok(())
 }
 
 const SECOND_VERSION: [Edit; 20] = [
@@ -351,12 +346,11 @@ const SECOND_VERSION: [Edit; 20] = [
 ];
 
 #[test]
-fn a_second_version_waits_for_the_first_connection(rt: HostRuntime) -> Result<(), Fail> {
+fn a_second_version_waits_for_the_first_connection(rt: HostRuntime) {
     assert_eq!(rt;
-        run(rt.alloc(), &SECOND_VERSION)?.as_str(),
+        run(&rt, rt.alloc(), &SECOND_VERSION).as_str(),
         "a1.1 e1:1^0-1 s1 f1 e1:1+1 a1.2 no e1:1~1-2 d1 e1:2#1-2 x1.1 no e1:2^1-2 f2 e1:2!AbortError a2.1 e2:1-1 s3 f3 e2:1+1 "
     );
-    Ok(())
 }
 
 const READERS_AND_WRITERS: [Edit; 31] = [
@@ -394,22 +388,21 @@ const READERS_AND_WRITERS: [Edit; 31] = [
 ];
 
 #[test]
-fn readers_writers_and_refusals(rt: HostRuntime) -> Result<(), Fail> {
+fn readers_writers_and_refusals(rt: HostRuntime) {
     assert_eq!(rt;
-        run(rt.alloc(), &READERS_AND_WRITERS)?.as_str(),
+        run(&rt, rt.alloc(), &READERS_AND_WRITERS).as_str(),
         "TypeError a1.1 e1:1^0-1 s1 no f1 e1:1+1 NotFoundError InvalidAccessError TypeError InvalidStateError t2.1 t3.1 t4.1 t5.1 s2 no<2 no<3 no<4 f2 s3 f3 s4 no f5 x1.1 z no a2.1 e2:1!UnknownError f4 "
     );
-    Ok(())
 }
 
 /// The steps as a report lists them, and the requests that aren't answered, each behind what it waits for: `<` a connection,
 /// `.` another request.
-fn write_end(said: &mut String, desk: &Desk) -> Result<(), NoMemory> {
-    for token in desk.tokens()?.as_slice() {
+fn write_end(rt: &impl Abort, said: &mut String, desk: &Desk) {
+    for token in desk.tokens().expect(rt, "memory").as_slice() {
         write_token(said, *token);
         let _ = write!(said, " ");
     }
-    for line in desk.pending()?.as_slice() {
+    for line in desk.pending().expect(rt, "memory").as_slice() {
         let sign = if line.waits { '<' } else { '.' };
         let _ = write!(
             said,
@@ -417,19 +410,18 @@ fn write_end(said: &mut String, desk: &Desk) -> Result<(), NoMemory> {
             line.client, line.request, line.of_client, line.of_request
         );
     }
-    Ok(())
 }
 
 /// Makes all edits on a desk without databases, and gives what a report would list.
-fn run_to_the_end(alloc: Global, edits: &[Edit]) -> Result<String, NoMemory> {
-    let mut desk = Desk::new(alloc, Schemas::new(alloc))?;
+fn run_to_the_end(rt: &impl Abort, alloc: Global, edits: &[Edit]) -> String {
+    let mut desk = Desk::new(alloc, Schemas::new(alloc)).expect(rt, "memory");
     let mut said = String::new(alloc);
     for edit in edits {
-        make(alloc, &mut desk, &mut said, edit)?;
+        make(rt, alloc, &mut desk, &mut said, edit);
     }
     said.clear();
-    write_end(&mut said, &desk)?;
-    Ok(said)
+    write_end(rt, &mut said, &desk);
+    said
 }
 
 const WAITING: [Edit; 13] = [
@@ -449,42 +441,39 @@ const WAITING: [Edit; 13] = [
 ];
 
 #[test]
-fn what_waits_at_the_end(rt: HostRuntime) -> Result<(), Fail> {
+fn what_waits_at_the_end(rt: HostRuntime) {
     assert_eq!(rt;
-        run_to_the_end(rt.alloc(), &WAITING)?.as_str(),
+        run_to_the_end(&rt, rt.alloc(), &WAITING).as_str(),
         "a2.1 e2 s1 f1 e2 a2.2 e2 d2 e2 a1.1 a2.3 a1.2 a1.3 1.1.2.2 1.3.2.2 2.2<2.1 2.3.2.2 "
     );
-    Ok(())
 }
 
 /// A client asks so many opens of one name.
-fn ask_many(alloc: Global, desk: &mut Desk, count: u32) -> Result<(), NoMemory> {
+fn ask_many(rt: &impl Abort, alloc: Global, desk: &mut Desk, count: u32) {
     for _ in 0..count {
         let who = next_of(desk, 1);
-        let name = text(alloc, "d")?;
+        let name = text(rt, alloc, "d");
         let wants = Wants::Open { version: None };
-        make_if(desk, DeskStep::Asks { who, name, wants })?;
+        make_if(desk, DeskStep::Asks { who, name, wants }).expect(rt, "memory");
     }
-    Ok(())
 }
 
 /// Asks ten thousand opens and one more, and gives how many steps were made.
-fn steps_of_many(alloc: Global, said: &mut String) -> Result<usize, NoMemory> {
-    let mut desk = Desk::new(alloc, Schemas::new(alloc))?;
-    ask_many(alloc, &mut desk, 9_999)?;
+fn steps_of_many(rt: &impl Abort, alloc: Global, said: &mut String) -> usize {
+    let mut desk = Desk::new(alloc, Schemas::new(alloc)).expect(rt, "memory");
+    ask_many(rt, alloc, &mut desk, 9_999);
     for _ in 0..2 {
-        make(alloc, &mut desk, said, &Edit::Open(1, None))?;
+        make(rt, alloc, &mut desk, said, &Edit::Open(1, None));
     }
-    Ok(desk.steps().len())
+    desk.steps().len()
 }
 
 #[test]
-fn the_ten_thousand_and_first_open_is_refused(rt: HostRuntime) -> Result<(), Fail> {
+fn the_ten_thousand_and_first_open_is_refused(rt: HostRuntime) {
     let mut said = String::new(rt.alloc());
-    let steps = steps_of_many(rt.alloc(), &mut said)?;
+    let steps = steps_of_many(&rt, rt.alloc(), &mut said);
     assert_eq!(rt;
         (steps, said.as_str()),
         (10_000, "a1.10000 QuotaExceededError ")
     );
-    Ok(())
 }

@@ -1,10 +1,8 @@
 // The start rule on worked values: readers and writers of one item and of others.
-use idb_base::NoMemory;
 use idb_keys::Mode;
 use scope_desk::{MayStart, ScopeDesk};
 use std::fmt::Write;
 use std::process::Abort;
-use std::test::Fail;
 
 #[derive(Clone, Copy)]
 enum Edit {
@@ -14,12 +12,11 @@ enum Edit {
     Least,
 }
 
-fn create(desk: &mut ScopeDesk, said: &mut String, item: u16, mode: Mode) -> Result<(), NoMemory> {
+fn create(rt: &impl Abort, desk: &mut ScopeDesk, said: &mut String, item: u16, mode: Mode) {
     if desk.next() < 1000 {
-        let number = desk.create(&[item, item], mode)?;
+        let number = desk.create(&[item, item], mode).expect(rt, "memory");
         let _ = write!(said, "+{number} ");
     }
-    Ok(())
 }
 
 fn finish(desk: &mut ScopeDesk, number: u64) {
@@ -42,14 +39,13 @@ fn write_least(desk: &ScopeDesk, said: &mut String) {
 }
 
 /// Makes one edit, and writes what it answered.
-fn make(desk: &mut ScopeDesk, said: &mut String, edit: &Edit) -> Result<(), NoMemory> {
+fn make(rt: &impl Abort, desk: &mut ScopeDesk, said: &mut String, edit: &Edit) {
     match edit {
-        Edit::Create(item, mode) => create(desk, said, *item, *mode)?,
+        Edit::Create(item, mode) => create(rt, desk, said, *item, *mode),
         Edit::Finish(number) => finish(desk, *number),
         Edit::MayStart(number) => write_start(desk, said, *number),
         Edit::Least => write_least(desk, said),
     }
-    Ok(())
 }
 
 const EDITS: [Edit; 19] = [
@@ -75,15 +71,14 @@ const EDITS: [Edit; 19] = [
 ];
 
 #[test]
-fn readers_wait_for_writers_and_writers_for_both(rt: HostRuntime) -> Result<(), Fail> {
+fn readers_wait_for_writers_and_writers_for_both(rt: HostRuntime) {
     let mut desk = ScopeDesk::new(rt.alloc());
     let mut said = String::new(rt.alloc());
     for edit in &EDITS {
-        make(&mut desk, &mut said, edit)?;
+        make(&rt, &mut desk, &mut said, edit);
     }
     assert_eq!(rt;
         said.as_str(),
         "+1 +2 +3 +4 1 2<1 3<2 4 least 2 2 3<2 4 3 4 least 0 "
     );
-    Ok(())
 }

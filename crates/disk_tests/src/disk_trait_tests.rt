@@ -3,7 +3,6 @@
 use disk_trait::*;
 use std::alloc::Global;
 use std::process::Abort;
-use std::test::Fail;
 
 #[derive(Clone, Copy)]
 enum Step {
@@ -31,23 +30,24 @@ const IMAGES: [Image; 4] = [
 ];
 
 fn disk_with(
+    rt: &impl Abort,
     alloc: Global,
     room: u64,
     calls: u64,
     fails: Option<u64>,
     stop_after: Option<u64>,
     image: Image,
-) -> Result<MemoryDisk, Fail> {
+) -> MemoryDisk {
     let mut fail_at = Vec::new(alloc);
     if let Some(k) = fails {
-        fail_at.push(k)?;
+        fail_at.push(k).expect(rt, "memory");
     }
     let plan = DiskPlan {
         fail_at,
         stop_after,
         image,
     };
-    Ok(MemoryDisk::with_room(alloc, room, calls, plan)?)
+    MemoryDisk::with_room(alloc, room, calls, plan).expect(rt, "memory")
 }
 
 // A place past the end is a mistake of the table, and stops the test.
@@ -111,17 +111,16 @@ fn left(image: Image, synced: bool) -> &'static [u8] {
 }
 
 // Whether just the call k fails, and the disk holds what it is to hold then.
-fn fails_at(rt: &impl Abort, alloc: Global, image: Image, k: u64) -> Result<bool, Fail> {
-    let mut disk = disk_with(alloc, 8, 7, Some(k), None, image)?;
+fn fails_at(rt: &impl Abort, alloc: Global, image: Image, k: u64) -> bool {
+    let mut disk = disk_with(rt, alloc, 8, 7, Some(k), None, image);
     let as_said = just_these_fail(rt, &mut disk, k, k.wrapping_add(1));
-    Ok(as_said && holds(&disk, Area::Zero, left(image, k != 2)))
+    as_said && holds(&disk, Area::Zero, left(image, k != 2))
 }
 
-fn calls_fail(rt: &impl Abort, alloc: Global, image: Image) -> Result<(), Fail> {
+fn calls_fail(rt: &impl Abort, alloc: Global, image: Image) {
     for k in 1..6u64 {
-        assert!(rt; fails_at(rt, alloc, image, k)?, "{image:?} at {k}");
+        assert!(rt; fails_at(rt, alloc, image, k), "{image:?} at {k}");
     }
-    Ok(())
 }
 
 // Whether it reads as before after a restart that failed.
@@ -136,44 +135,39 @@ fn restarts(rt: &impl Abort, disk: &mut MemoryDisk, image: Image) -> bool {
 }
 
 // Whether the restart fails, and the next one does what a restart does.
-fn restart_fails(rt: &impl Abort, alloc: Global, image: Image) -> Result<bool, Fail> {
-    let mut disk = disk_with(alloc, 8, 7, Some(6), None, image)?;
-    Ok(fails_to_restart(rt, &mut disk) && restarts(rt, &mut disk, image))
+fn restart_fails(rt: &impl Abort, alloc: Global, image: Image) -> bool {
+    let mut disk = disk_with(rt, alloc, 8, 7, Some(6), None, image);
+    fails_to_restart(rt, &mut disk) && restarts(rt, &mut disk, image)
 }
 
 #[test]
-fn each_call_fails_in_turn(rt: HostRuntime) -> Result<(), Fail> {
+fn each_call_fails_in_turn(rt: HostRuntime) {
     for image in &IMAGES {
-        calls_fail(&rt, rt.alloc(), *image)?;
-        assert!(rt; restart_fails(&rt, rt.alloc(), *image)?, "{image:?}");
+        calls_fail(&rt, rt.alloc(), *image);
+        assert!(rt; restart_fails(&rt, rt.alloc(), *image), "{image:?}");
     }
-    Ok(())
 }
 
 // Whether it stops after k calls, holds what it is to hold then, and no stop holds any more.
-fn stops_after(rt: &impl Abort, alloc: Global, image: Image, k: u64) -> Result<bool, Fail> {
-    let mut disk = disk_with(alloc, 9, 9, None, Some(k), image)?;
+fn stops_after(rt: &impl Abort, alloc: Global, image: Image, k: u64) -> bool {
+    let mut disk = disk_with(rt, alloc, 9, 9, None, Some(k), image);
     let as_said = just_these_fail(rt, &mut disk, k.wrapping_add(1), 6);
-    Ok(
-        as_said
-            && holds(&disk, Area::Zero, left(image, k >= 2))
-            && done(rt, &mut disk, Step::Sync(Area::Zero)),
-    )
+    as_said
+        && holds(&disk, Area::Zero, left(image, k >= 2))
+        && done(rt, &mut disk, Step::Sync(Area::Zero))
 }
 
-fn stops(rt: &impl Abort, alloc: Global, image: Image) -> Result<(), Fail> {
+fn stops(rt: &impl Abort, alloc: Global, image: Image) {
     for k in 0..6u64 {
-        assert!(rt; stops_after(rt, alloc, image, k)?, "{image:?} after {k}");
+        assert!(rt; stops_after(rt, alloc, image, k), "{image:?} after {k}");
     }
-    Ok(())
 }
 
 #[test]
-fn it_stops_after_each_call(rt: HostRuntime) -> Result<(), Fail> {
+fn it_stops_after_each_call(rt: HostRuntime) {
     for image in &IMAGES {
-        stops(&rt, rt.alloc(), *image)?;
+        stops(&rt, rt.alloc(), *image);
     }
-    Ok(())
 }
 
 // What a second stop leaves, after a write of one byte.
@@ -193,21 +187,18 @@ fn stops_again(rt: &impl Abort, disk: &mut MemoryDisk) -> bool {
         && done(rt, disk, Step::Restart)
 }
 
-fn second_stop_finds(rt: &impl Abort, alloc: Global, image: Image) -> Result<bool, Fail> {
-    let mut disk = disk_with(alloc, 9, 9, None, Some(5), image)?;
-    Ok(
-        stops_again(rt, &mut disk)
-            && holds(&disk, Area::Zero, left_by_second(image))
-            && holds(&disk, Area::One, &[]),
-    )
+fn second_stop_finds(rt: &impl Abort, alloc: Global, image: Image) -> bool {
+    let mut disk = disk_with(rt, alloc, 9, 9, None, Some(5), image);
+    stops_again(rt, &mut disk)
+        && holds(&disk, Area::Zero, left_by_second(image))
+        && holds(&disk, Area::One, &[])
 }
 
 #[test]
-fn a_second_stop_finds_what_was_written_since_the_first(rt: HostRuntime) -> Result<(), Fail> {
+fn a_second_stop_finds_what_was_written_since_the_first(rt: HostRuntime) {
     for image in &IMAGES {
-        assert!(rt; second_stop_finds(&rt, rt.alloc(), *image)?, "{image:?}");
+        assert!(rt; second_stop_finds(&rt, rt.alloc(), *image), "{image:?}");
     }
-    Ok(())
 }
 
 fn length(disk: &mut MemoryDisk, area: Area) -> Option<u64> {
@@ -275,10 +266,9 @@ fn meets_room_and_calls(rt: &impl Abort, disk: &mut MemoryDisk) -> bool {
 }
 
 #[test]
-fn room_and_calls_are_met_and_passed(rt: HostRuntime) -> Result<(), Fail> {
-    let mut disk = disk_with(rt.alloc(), 4, 7, None, None, Image::Kept)?;
+fn room_and_calls_are_met_and_passed(rt: HostRuntime) {
+    let mut disk = disk_with(&rt, rt.alloc(), 4, 7, None, None, Image::Kept);
     assert!(rt; meets_room_and_calls(&rt, &mut disk));
-    Ok(())
 }
 
 #[test]
@@ -319,29 +309,25 @@ fn is_open(image: Image, k: u64) -> bool {
 }
 
 // Whether of the ten calls the first k are made, and the note stands there then or not.
-fn note_after(rt: &impl Abort, alloc: Global, image: Image, k: u64) -> Result<bool, Fail> {
-    let mut disk = disk_with(alloc, 5, 11, None, Some(k), image)?;
+fn note_after(rt: &impl Abort, alloc: Global, image: Image, k: u64) -> bool {
+    let mut disk = disk_with(rt, alloc, 5, 11, None, Some(k), image);
     let as_said = make_note_in_memory(&mut disk) == (k == 10);
-    Ok(
-        as_said
-            && done(rt, &mut disk, Step::Restart)
-            && holds(&disk, Area::One, &[0xa5, 7, 8, 9]) == is_open(image, k),
-    )
+    as_said
+        && done(rt, &mut disk, Step::Restart)
+        && holds(&disk, Area::One, &[0xa5, 7, 8, 9]) == is_open(image, k)
 }
 
-fn notes(rt: &impl Abort, alloc: Global, image: Image) -> Result<(), Fail> {
+fn notes(rt: &impl Abort, alloc: Global, image: Image) {
     for k in 6..=10u64 {
-        assert!(rt; note_after(rt, alloc, image, k)?, "{image:?} after {k}");
+        assert!(rt; note_after(rt, alloc, image, k), "{image:?} after {k}");
     }
-    Ok(())
 }
 
 #[test]
-fn a_note_is_whole_or_not_there(rt: HostRuntime) -> Result<(), Fail> {
+fn a_note_is_whole_or_not_there(rt: HostRuntime) {
     for image in &IMAGES {
-        notes(&rt, rt.alloc(), *image)?;
+        notes(&rt, rt.alloc(), *image);
     }
-    Ok(())
 }
 
 // Forty bytes at the end, and then the first of them again.
@@ -365,8 +351,7 @@ fn appends_many(rt: &impl Abort, disk: &mut MemoryDisk) -> bool {
 }
 
 #[test]
-fn many_appends_cost_what_they_bring(rt: HostRuntime) -> Result<(), Fail> {
-    let mut disk = disk_with(rt.alloc(), 410_000, 40_000, None, None, Image::Dropped)?;
+fn many_appends_cost_what_they_bring(rt: HostRuntime) {
+    let mut disk = disk_with(&rt, rt.alloc(), 410_000, 40_000, None, None, Image::Dropped);
     assert!(rt; appends_many(&rt, &mut disk));
-    Ok(())
 }

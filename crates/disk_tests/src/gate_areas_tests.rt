@@ -1,23 +1,25 @@
 // That calls succeed with ample memory.
 use gate_areas::*;
 use std::alloc::Global;
-use std::test::Fail;
+use std::process::Abort;
 
-fn payload_of_five(alloc: Global) -> Result<Payload, Fail> {
+fn payload_of_five(rt: &impl Abort, alloc: Global) -> Payload {
     let mut payload = Payload::new(alloc);
-    payload.push(5)?;
-    Ok(payload)
+    payload.push(5).expect(rt, "memory");
+    payload
 }
 
 fn is_five(payload: &Payload) -> bool {
     payload.len() == 1 && payload.at(0).copied() == Some(5) && payload.at(1).is_none()
 }
 
-fn one_batch(alloc: Global) -> Result<Batches, Fail> {
-    let payload = payload_of_five(alloc)?;
+fn one_batch(rt: &impl Abort, alloc: Global) -> Batches {
+    let payload = payload_of_five(rt, alloc);
     let mut batches = Batches::new(alloc);
-    batches.push(Batch { place: 17, payload })?;
-    Ok(batches)
+    batches
+        .push(Batch { place: 17, payload })
+        .expect(rt, "memory");
+    batches
 }
 
 fn is_one(batches: &Batches) -> bool {
@@ -26,15 +28,13 @@ fn is_one(batches: &Batches) -> bool {
 }
 
 #[test]
-fn bytes_are_added_one_by_one(rt: HostRuntime) -> Result<(), Fail> {
-    let payload = payload_of_five(rt.alloc())?;
+fn bytes_are_added_one_by_one(rt: HostRuntime) {
+    let payload = payload_of_five(&rt, rt.alloc());
     assert!(rt; is_five(&payload));
-    Ok(())
 }
 
 #[test]
-fn batches_are_added_one_by_one(rt: HostRuntime) -> Result<(), Fail> {
-    let batches = one_batch(rt.alloc())?;
+fn batches_are_added_one_by_one(rt: HostRuntime) {
+    let batches = one_batch(&rt, rt.alloc());
     assert!(rt; is_one(&batches));
-    Ok(())
 }

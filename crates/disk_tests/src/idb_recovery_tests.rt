@@ -6,7 +6,7 @@ use idb_databases::Databases;
 use idb_recovery::{AreaFound, BatchLine, Looked, Opened, RecoverError, look, recover};
 use index_tables::{FlatTables, Tables};
 use std::alloc::Global;
-use std::test::Fail;
+use std::process::Abort;
 
 /// An upgrade: a version, and a new store.
 const FIRST: &[u8] = b"\x00\x00\x00\x01\
@@ -26,127 +26,125 @@ const SECOND: &[u8] = b"\x00\x00\x00\x01\
 type Row = (&'static [&'static [u8]], Option<u64>, Option<u64>);
 
 /// A blank disk, and which call of it fails.
-fn blank_disk(alloc: Global, fails: Option<u64>) -> Result<MemoryDisk, Fail> {
+fn blank_disk(rt: &impl Abort, alloc: Global, fails: Option<u64>) -> MemoryDisk {
     let mut fail_at = Vec::new(alloc);
     if let Some(call) = fails {
-        fail_at.push(call)?;
+        fail_at.push(call).expect(rt, "memory");
     }
     let plan = DiskPlan {
         fail_at,
         stop_after: None,
         image: Image::Kept,
     };
-    Ok(MemoryDisk::with_room(alloc, 2_000_000, 100_000, plan)?)
+    MemoryDisk::with_room(alloc, 2_000_000, 100_000, plan).expect(rt, "memory")
 }
 
-fn new_log(alloc: Global, fails: Option<u64>) -> Result<GateLog<MemoryDisk>, Fail> {
-    match GateLog::load(alloc, blank_disk(alloc, fails)?) {
-        Ok((log, _)) => Ok(log),
-        Err(_) => Err(Fail::new("no log")),
+fn new_log(rt: &impl Abort, alloc: Global, fails: Option<u64>) -> GateLog<MemoryDisk> {
+    match GateLog::load(alloc, blank_disk(rt, alloc, fails)) {
+        Ok((log, _)) => log,
+        Err(_) => panic!(rt; "no log"),
     }
 }
 
-fn cut(disk: &mut MemoryDisk, at: u64) -> Result<(), Fail> {
+fn cut(rt: &impl Abort, disk: &mut MemoryDisk, at: u64) {
     match disk.len(Area::Zero) {
         Ok(len) if at <= len => {
             let _ = disk.cut(Area::Zero, at);
-            Ok(())
         }
-        _ => Err(Fail::new("no cut")),
+        _ => panic!(rt; "no cut"),
     }
 }
 
-fn append(alloc: Global, log: &mut GateLog<MemoryDisk>, payload: &[u8]) -> Result<(), Fail> {
-    let frame = Frame::new(alloc, payload)?;
-    if log.append(&frame).is_err() {
-        return Err(Fail::new("no append"));
-    }
-    Ok(())
+fn append(rt: &impl Abort, alloc: Global, log: &mut GateLog<MemoryDisk>, payload: &[u8]) {
+    let frame = Frame::new(alloc, payload).expect(rt, "memory");
+    assert!(rt; log.append(&frame).is_ok());
 }
 
 /// A disk with a log of these batches, and which call of it fails.
 fn disk_of_batches(
+    rt: &impl Abort,
     alloc: Global,
     payloads: &[&[u8]],
     fails: Option<u64>,
-) -> Result<MemoryDisk, Fail> {
-    let mut log = new_log(alloc, fails)?;
+) -> MemoryDisk {
+    let mut log = new_log(rt, alloc, fails);
     for payload in payloads {
-        append(alloc, &mut log, payload)?;
+        append(rt, alloc, &mut log, payload);
     }
-    Ok(log.into_disk())
+    log.into_disk()
 }
 
 /// A disk with a log of these batches, cut where the row says so.
-fn disk_of_row(alloc: Global, row: Row) -> Result<MemoryDisk, Fail> {
-    let mut disk = disk_of_batches(alloc, row.0, row.2)?;
+fn disk_of_row(rt: &impl Abort, alloc: Global, row: Row) -> MemoryDisk {
+    let mut disk = disk_of_batches(rt, alloc, row.0, row.2);
     if let Some(at) = row.1 {
-        cut(&mut disk, at)?;
+        cut(rt, &mut disk, at);
     }
-    Ok(disk)
+    disk
 }
 
 /// How many databases there are, and how many records the first store of the first one has.
-fn tell_items<T: Tables>(said: &mut String, items: &Databases<T>) -> Result<(), Fail> {
-    write!(said, "{}", items.len())?;
+fn tell_items<T: Tables>(rt: &impl Abort, said: &mut String, items: &Databases<T>) {
+    write!(said, "{}", items.len()).expect(rt, "memory");
     if let Some(database) = items.at(0) {
         if let Some(store) = database.stores.at(0) {
-            write!(said, "+{}", store.len())?;
+            write!(said, "+{}", store.len()).expect(rt, "memory");
         }
     }
-    Ok(())
 }
 
-fn tell_error(said: &mut String, error: RecoverError) -> Result<(), Fail> {
+fn tell_error(rt: &impl Abort, said: &mut String, error: RecoverError) {
     match error {
-        RecoverError::DiskFault => write!(said, "fault")?,
-        RecoverError::Damaged { area, place } => write!(said, "{area:?}@{place}")?,
-        RecoverError::NoMemory => write!(said, "memory")?,
+        RecoverError::DiskFault => write!(said, "fault").expect(rt, "memory"),
+        RecoverError::Damaged { area, place } => write!(said, "{area:?}@{place}").expect(
+            rt, "memory",
+        ),
+        RecoverError::NoMemory => write!(said, "memory").expect(rt, "memory"),
     }
-    Ok(())
 }
 
 /// What was recovered; and the disk.
 fn tell<T: Tables>(
+    rt: &impl Abort,
     said: &mut String,
     answer: Result<Opened<MemoryDisk, T>, (RecoverError, MemoryDisk)>,
-) -> Result<MemoryDisk, Fail> {
+) -> MemoryDisk {
     match answer {
         Ok(opened) => {
             let Opened { log, items } = opened;
-            tell_items(said, &items)?;
-            Ok(log.into_disk())
+            tell_items(rt, said, &items);
+            log.into_disk()
         }
         Err((error, disk)) => {
-            tell_error(said, error)?;
-            Ok(disk)
+            tell_error(rt, said, error);
+            disk
         }
     }
 }
 
-fn push(said: &mut String, s: &str) -> Result<(), Fail> {
-    Ok(said.push_str(s)?)
+fn push(rt: &impl Abort, said: &mut String, s: &str) {
+    said.push_str(s).expect(rt, "memory")
 }
 
 /// What a recovery gives, and these words behind it; and the disk.
 fn tell_recovered<T: Tables>(
+    rt: &impl Abort,
     alloc: Global,
     said: &mut String,
     disk: MemoryDisk,
     behind: &str,
-) -> Result<MemoryDisk, Fail> {
+) -> MemoryDisk {
     let answer: Result<Opened<MemoryDisk, T>, (RecoverError, MemoryDisk)> = recover(alloc, disk);
-    let disk = tell(said, answer)?;
-    push(said, behind)?;
-    Ok(disk)
+    let disk = tell(rt, said, answer);
+    push(rt, said, behind);
+    disk
 }
 
 /// The disk of a row, recovered twice.
-fn tell_row<T: Tables>(alloc: Global, said: &mut String, row: Row) -> Result<(), Fail> {
-    let disk = disk_of_row(alloc, row)?;
-    let disk = tell_recovered::<T>(alloc, said, disk, " ")?;
-    let _ = tell_recovered::<T>(alloc, said, disk, "; ")?;
-    Ok(())
+fn tell_row<T: Tables>(rt: &impl Abort, alloc: Global, said: &mut String, row: Row) {
+    let disk = disk_of_row(rt, alloc, row);
+    let disk = tell_recovered::<T>(rt, alloc, said, disk, " ");
+    let _ = tell_recovered::<T>(rt, alloc, said, disk, "; ");
 }
 
 const ROWS: [Row; 7] = [
@@ -159,23 +157,22 @@ const ROWS: [Row; 7] = [
     (&[], None, Some(12)),
 ];
 
-fn answers<T: Tables>(alloc: Global) -> Result<String, Fail> {
+fn answers<T: Tables>(rt: &impl Abort, alloc: Global) -> String {
     let mut said = String::new(alloc);
     for row in ROWS {
-        tell_row::<T>(alloc, &mut said, row)?;
+        tell_row::<T>(rt, alloc, &mut said, row);
     }
-    Ok(said)
+    said
 }
 
 /// The eleven calls of the first load are behind the call that fails.
 #[test]
-fn what_a_disk_gives(rt: HostRuntime) -> Result<(), Fail> {
-    let said = answers::<FlatTables>(rt.alloc())?;
+fn what_a_disk_gives(rt: HostRuntime) {
+    let said = answers::<FlatTables>(&rt, rt.alloc());
     assert_eq!(rt;
         said.as_str(),
         "0 0; 1+1 1+1; 1+0 1+0; Zero@70 Zero@70; Zero@26 Zero@26; Zero@132 Zero@132; fault 0; "
     );
-    Ok(())
 }
 
 /// The area of a log with the two batches above, of generation 1. The last byte of the generation stands at 16, the count of the first
@@ -210,97 +207,86 @@ fn numbers_of(part: Part) -> (usize, usize, u8) {
     }
 }
 
-fn bytes_of(alloc: Global, part: Part) -> Result<Vec<u8>, Fail> {
+fn bytes_of(rt: &impl Abort, alloc: Global, part: Part) -> Vec<u8> {
     let (len, changed, other) = numbers_of(part);
     let mut bytes = Vec::new(alloc);
     for place in 0..len {
         if let Some(byte) = WORKED.get(place) {
-            bytes.push(if place == changed { other } else { *byte })?;
+            bytes
+                .push(if place == changed { other } else { *byte })
+                .expect(rt, "memory");
         }
     }
-    Ok(bytes)
+    bytes
 }
 
-fn put_bytes(alloc: Global, disk: &mut MemoryDisk, area: Area, bytes: Part) -> Result<(), Fail> {
-    let bytes = bytes_of(alloc, bytes)?;
-    if disk.write_at(area, 0, &bytes).is_err() {
-        return Err(Fail::new("no write"));
-    }
-    Ok(())
+fn put_bytes(rt: &impl Abort, alloc: Global, disk: &mut MemoryDisk, area: Area, bytes: Part) {
+    let bytes = bytes_of(rt, alloc, bytes);
+    assert!(rt; disk.write_at(area, 0, &bytes).is_ok());
 }
 
 /// A disk with these areas, written in two calls, and which later call of it fails.
 fn disk_of_areas(
+    rt: &impl Abort,
     alloc: Global,
     zero: Part,
     one: Part,
     fails: Option<u64>,
-) -> Result<MemoryDisk, Fail> {
-    let mut disk = blank_disk(alloc, fails)?;
-    put_bytes(alloc, &mut disk, Area::Zero, zero)?;
-    put_bytes(alloc, &mut disk, Area::One, one)?;
-    Ok(disk)
+) -> MemoryDisk {
+    let mut disk = blank_disk(rt, alloc, fails);
+    put_bytes(rt, alloc, &mut disk, Area::Zero, zero);
+    put_bytes(rt, alloc, &mut disk, Area::One, one);
+    disk
 }
 
 /// The place of a batch, its length and its numbers.
-fn tell_line(said: &mut String, line: &BatchLine) -> Result<(), Fail> {
-    write!(said, " {}+{}", line.place, line.length)?;
+fn tell_line(rt: &impl Abort, said: &mut String, line: &BatchLine) {
+    write!(said, " {}+{}", line.place, line.length).expect(rt, "memory");
     for number in line.numbers.as_slice() {
-        write!(said, ":{number}")?;
+        write!(said, ":{number}").expect(rt, "memory");
     }
-    Ok(())
 }
 
 /// The generation of an open area, and for each batch its place, its length and its numbers.
-fn tell_open(said: &mut String, generation: u64, batches: &[BatchLine]) -> Result<(), Fail> {
-    write!(said, "{generation}")?;
+fn tell_open(rt: &impl Abort, said: &mut String, generation: u64, batches: &[BatchLine]) {
+    write!(said, "{generation}").expect(rt, "memory");
     for line in batches {
-        tell_line(said, line)?;
+        tell_line(rt, said, line);
     }
-    Ok(())
 }
 
-fn tell_area(said: &mut String, area: &AreaFound, behind: &str) -> Result<(), Fail> {
+fn tell_area(rt: &impl Abort, said: &mut String, area: &AreaFound, behind: &str) {
     match area {
-        AreaFound::Blank => push(said, "blank")?,
+        AreaFound::Blank => push(rt, said, "blank"),
         AreaFound::Open {
             generation,
             batches,
-        } => tell_open(said, *generation, batches.as_slice())?,
+        } => tell_open(rt, said, *generation, batches.as_slice()),
     }
-    push(said, behind)
+    push(rt, said, behind)
 }
 
 /// Both areas, and what a recovery would give.
-fn tell_found<T: Tables>(said: &mut String, looked: &Looked<T>) -> Result<(), Fail> {
-    tell_area(said, &looked.zero, " / ")?;
-    tell_area(said, &looked.one, " / ")?;
-    tell_items(said, &looked.items)
+fn tell_found<T: Tables>(rt: &impl Abort, said: &mut String, looked: &Looked<T>) {
+    tell_area(rt, said, &looked.zero, " / ");
+    tell_area(rt, said, &looked.one, " / ");
+    tell_items(rt, said, &looked.items)
 }
 
 /// What a look shows.
-fn tell_look<T: Tables>(
-    alloc: Global,
-    said: &mut String,
-    disk: &mut MemoryDisk,
-) -> Result<(), Fail> {
+fn tell_look<T: Tables>(rt: &impl Abort, alloc: Global, said: &mut String, disk: &mut MemoryDisk) {
     let looked: Result<Looked<T>, RecoverError> = look(alloc, disk);
     match looked {
-        Ok(looked) => tell_found(said, &looked),
-        Err(error) => tell_error(said, error),
+        Ok(looked) => tell_found(rt, said, &looked),
+        Err(error) => tell_error(rt, said, error),
     }
 }
 
 /// What a look shows; and what a recovery gives behind it.
-fn tell_looked<T: Tables>(
-    alloc: Global,
-    said: &mut String,
-    mut disk: MemoryDisk,
-) -> Result<(), Fail> {
-    tell_look::<T>(alloc, said, &mut disk)?;
-    push(said, " = ")?;
-    let _ = tell_recovered::<T>(alloc, said, disk, "\n")?;
-    Ok(())
+fn tell_looked<T: Tables>(rt: &impl Abort, alloc: Global, said: &mut String, mut disk: MemoryDisk) {
+    tell_look::<T>(rt, alloc, said, &mut disk);
+    push(rt, said, " = ");
+    let _ = tell_recovered::<T>(rt, alloc, said, disk, "\n");
 }
 
 /// Both areas, and which call of the disk fails.
@@ -324,23 +310,23 @@ const AREAS: [Areas; 15] = [
     (Part::CutTo(124), Part::CutTo(0), Some(3)),
 ];
 
-fn tell_areas<T: Tables>(alloc: Global, said: &mut String, areas: Areas) -> Result<(), Fail> {
+fn tell_areas<T: Tables>(rt: &impl Abort, alloc: Global, said: &mut String, areas: Areas) {
     let (zero, one, fails) = areas;
-    let disk = disk_of_areas(alloc, zero, one, fails)?;
-    tell_looked::<T>(alloc, said, disk)
+    let disk = disk_of_areas(rt, alloc, zero, one, fails);
+    tell_looked::<T>(rt, alloc, said, disk)
 }
 
-fn looks<T: Tables>(alloc: Global) -> Result<String, Fail> {
+fn looks<T: Tables>(rt: &impl Abort, alloc: Global) -> String {
     let mut said = String::new(alloc);
     for areas in AREAS {
-        tell_areas::<T>(alloc, &mut said, areas)?;
+        tell_areas::<T>(rt, alloc, &mut said, areas);
     }
-    Ok(said)
+    said
 }
 
 #[test]
-fn a_look_shows_both_areas_and_what_a_recovery_gives(rt: HostRuntime) -> Result<(), Fail> {
-    let said = looks::<FlatTables>(rt.alloc())?;
+fn a_look_shows_both_areas_and_what_a_recovery_gives(rt: HostRuntime) {
+    let said = looks::<FlatTables>(&rt, rt.alloc());
     assert_eq!(rt;
         said.as_str(),
         "blank / blank / 0 = 0\n\
@@ -359,5 +345,4 @@ fn a_look_shows_both_areas_and_what_a_recovery_gives(rt: HostRuntime) -> Result<
          Zero@18 = Zero@18\n\
          fault = 1+1\n"
     );
-    Ok(())
 }

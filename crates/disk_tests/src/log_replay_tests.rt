@@ -5,7 +5,7 @@ use idb_databases::Databases;
 use index_tables::{FlatTables, Tables};
 use log_replay::{ReplayError, replay};
 use std::alloc::Global;
-use std::test::Fail;
+use std::process::Abort;
 
 /// An upgrade: a version, and a new store.
 const FIRST: &[u8] = b"\x00\x00\x00\x01\
@@ -21,7 +21,7 @@ const SECOND: &[u8] = b"\x00\x00\x00\x01\
     7\x00\x00\x00\x01d\x00\x00\x00\x01s\
     !\x00\x00\x00\x00\x00\x00\x00\x01\x04\x00\x00\x00\x00\x00\x00\x00\x07";
 
-fn new_log(alloc: Global) -> Result<GateLog<MemoryDisk>, Fail> {
+fn new_log(rt: &impl Abort, alloc: Global) -> GateLog<MemoryDisk> {
     let plan = DiskPlan {
         fail_at: Vec::new(alloc),
         stop_after: None,
@@ -29,76 +29,70 @@ fn new_log(alloc: Global) -> Result<GateLog<MemoryDisk>, Fail> {
     };
     match GateLog::load(
         alloc,
-        MemoryDisk::with_room(alloc, 2_000_000, 100_000, plan)?,
+        MemoryDisk::with_room(alloc, 2_000_000, 100_000, plan).expect(rt, "memory"),
     ) {
-        Ok((log, _)) => Ok(log),
-        Err(_) => Err(Fail::new("no log")),
+        Ok((log, _)) => log,
+        Err(_) => panic!(rt; "no log"),
     }
 }
 
 /// How many databases there are, and how many records the first store of each has.
-fn told_items<T: Tables>(said: &mut String, items: &Databases<T>) -> Result<(), Fail> {
-    write!(said, "{} ", items.len())?;
+fn told_items<T: Tables>(rt: &impl Abort, said: &mut String, items: &Databases<T>) {
+    write!(said, "{} ", items.len()).expect(rt, "memory");
     if let Some(database) = items.at(0) {
         if let Some(store) = database.stores.at(0) {
-            write!(said, "{} ", store.len())?;
+            write!(said, "{} ", store.len()).expect(rt, "memory");
         }
     }
-    Ok(())
 }
 
-fn told_place(said: &mut String, place: u64) -> Result<(), Fail> {
-    Ok(write!(said, "@{place} ")?)
+fn told_place(rt: &impl Abort, said: &mut String, place: u64) {
+    write!(said, "@{place} ").expect(rt, "memory")
 }
 
 /// What there is; or the place of the fault.
-fn told<T: Tables>(
-    said: &mut String,
-    answer: Result<Databases<T>, ReplayError>,
-) -> Result<(), Fail> {
+fn told<T: Tables>(rt: &impl Abort, said: &mut String, answer: Result<Databases<T>, ReplayError>) {
     match answer {
-        Ok(items) => told_items(said, &items),
-        Err(ReplayError::Damaged { place }) => told_place(said, place),
-        Err(ReplayError::NoMemory) => Ok(said.push_str("? ")?),
+        Ok(items) => told_items(rt, said, &items),
+        Err(ReplayError::Damaged { place }) => told_place(rt, said, place),
+        Err(ReplayError::NoMemory) => said.push_str("? ").expect(rt, "memory"),
     }
 }
 
 /// Reads the batches of the log, and replays them.
 fn replay_log<T: Tables>(
+    rt: &impl Abort,
     alloc: Global,
     log: &mut GateLog<MemoryDisk>,
-) -> Result<Result<Databases<T>, ReplayError>, Fail> {
+) -> Result<Databases<T>, ReplayError> {
     match log.batches(alloc) {
         Ok(batches) => {
             let _ = log.failed();
-            Ok(replay(alloc, &batches))
+            replay(alloc, &batches)
         }
-        Err(_) => Err(Fail::new("no batches")),
+        Err(_) => panic!(rt; "no batches"),
     }
 }
 
-fn append(alloc: Global, log: &mut GateLog<MemoryDisk>, payload: &[u8]) -> Result<(), Fail> {
-    let frame = Frame::new(alloc, payload)?;
-    if log.append(&frame).is_err() {
-        return Err(Fail::new("no append"));
-    }
-    Ok(())
+fn append(rt: &impl Abort, alloc: Global, log: &mut GateLog<MemoryDisk>, payload: &[u8]) {
+    let frame = Frame::new(alloc, payload).expect(rt, "memory");
+    assert!(rt; log.append(&frame).is_ok());
 }
 
 /// A log of these payloads.
-fn log_of(alloc: Global, payloads: &[&[u8]]) -> Result<GateLog<MemoryDisk>, Fail> {
-    let mut log = new_log(alloc)?;
+fn log_of(rt: &impl Abort, alloc: Global, payloads: &[&[u8]]) -> GateLog<MemoryDisk> {
+    let mut log = new_log(rt, alloc);
     for payload in payloads {
-        append(alloc, &mut log, payload)?;
+        append(rt, alloc, &mut log, payload);
     }
-    Ok(log)
+    log
 }
 
 /// A log of these payloads, replayed.
-fn tell<T: Tables>(alloc: Global, said: &mut String, payloads: &[&[u8]]) -> Result<(), Fail> {
-    let mut log = log_of(alloc, payloads)?;
-    let answer = replay_log::<T>(alloc, &mut log)?;
-    told(said, answer)
+fn tell<T: Tables>(rt: &impl Abort, alloc: Global, said: &mut String, payloads: &[&[u8]]) {
+    let mut log = log_of(rt, alloc, payloads);
+    let answer = replay_log::<T>(rt, alloc, &mut log);
+    told(rt, said, answer)
 }
 
 const LOGS: [&[&[u8]]; 6] = [
@@ -110,17 +104,16 @@ const LOGS: [&[&[u8]]; 6] = [
     &[FIRST, SECOND, b"none", FIRST],
 ];
 
-fn answers<T: Tables>(alloc: Global) -> Result<String, Fail> {
+fn answers<T: Tables>(rt: &impl Abort, alloc: Global) -> String {
     let mut said = String::new(alloc);
     for payloads in LOGS {
-        tell::<T>(alloc, &mut said, payloads)?;
+        tell::<T>(rt, alloc, &mut said, payloads);
     }
-    Ok(said)
+    said
 }
 
 #[test]
-fn what_batches_give(rt: HostRuntime) -> Result<(), Fail> {
-    let said = answers::<FlatTables>(rt.alloc())?;
+fn what_batches_give(rt: HostRuntime) {
+    let said = answers::<FlatTables>(&rt, rt.alloc());
     assert_eq!(rt; said.as_str(), "0 1 0 1 1 @26 @78 @132 ");
-    Ok(())
 }

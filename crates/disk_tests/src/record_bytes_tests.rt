@@ -4,7 +4,6 @@ use idb_keys::{Durability, Mode};
 use record_bytes::*;
 use std::alloc::Global;
 use std::process::Abort;
-use std::test::Fail;
 use value_bytes::SpellingError;
 
 /// An upgrade: a version, and a new store.
@@ -53,44 +52,39 @@ const CHANGES: [Change; 5] = [
     Change::Front,
 ];
 
-fn put(out: &mut Vec<u8>, bytes: &[u8]) -> Result<(), Fail> {
-    Ok(out.extend_from_slice(bytes)?)
+fn put(rt: &impl Abort, out: &mut Vec<u8>, bytes: &[u8]) {
+    out.extend_from_slice(bytes).expect(rt, "memory")
 }
 
 /// Puts the changed byte, and what stands behind it.
-fn put_changed(out: &mut Vec<u8>, byte: u8, rest: &[u8], change: Change) -> Result<(), Fail> {
+fn put_changed(rt: &impl Abort, out: &mut Vec<u8>, byte: u8, rest: &[u8], change: Change) {
     match change {
-        Change::More => put(out, &[byte.wrapping_add(1)])?,
-        Change::Less => put(out, &[byte.wrapping_sub(1)])?,
+        Change::More => put(rt, out, &[byte.wrapping_add(1)]),
+        Change::Less => put(rt, out, &[byte.wrapping_sub(1)]),
         Change::Cut => {}
-        Change::Doubled => put(out, &[byte, byte])?,
-        Change::Front => return Ok(()),
+        Change::Doubled => put(rt, out, &[byte, byte]),
+        Change::Front => return,
     }
-    put(out, rest)
+    put(rt, out, rest)
 }
 
-fn put_with_change(
-    out: &mut Vec<u8>,
-    bytes: &[u8],
-    place: usize,
-    change: Change,
-) -> Result<(), Fail> {
+fn put_with_change(rt: &impl Abort, out: &mut Vec<u8>, bytes: &[u8], place: usize, change: Change) {
     if place > bytes.len() {
-        return Ok(());
+        return;
     }
     let (front, behind) = bytes.split_at(place);
-    put(out, front)?;
+    put(rt, out, front);
     match behind {
-        [byte, rest @ ..] => put_changed(out, *byte, rest, change),
-        [] => Ok(()),
+        [byte, rest @ ..] => put_changed(rt, out, *byte, rest, change),
+        [] => {}
     }
 }
 
 /// The byte at this place is one more or one less, is cut, stands twice, or goes with all behind it.
-fn changed(alloc: Global, bytes: &[u8], place: usize, change: Change) -> Result<Vec<u8>, Fail> {
+fn changed(rt: &impl Abort, alloc: Global, bytes: &[u8], place: usize, change: Change) -> Vec<u8> {
     let mut out = Vec::new(alloc);
-    put_with_change(&mut out, bytes, place, change)?;
-    Ok(out)
+    put_with_change(rt, &mut out, bytes, place, change);
+    out
 }
 
 /// Whether the bytes are a batch.
@@ -102,41 +96,42 @@ fn word(alloc: Global, bytes: &[u8]) -> &'static str {
     }
 }
 
-fn told(alloc: Global, said: &mut String, bytes: &[u8]) -> Result<(), Fail> {
-    Ok(said.push_str(word(alloc, bytes))?)
+fn told(rt: &impl Abort, alloc: Global, said: &mut String, bytes: &[u8]) {
+    said.push_str(word(alloc, bytes)).expect(rt, "memory")
 }
 
 fn tell_changed(
+    rt: &impl Abort,
     alloc: Global,
     said: &mut String,
     bytes: &[u8],
     place: usize,
     change: Change,
-) -> Result<(), Fail> {
-    let bytes = changed(alloc, bytes, place, change)?;
-    told(alloc, said, &bytes)
+) {
+    let bytes = changed(rt, alloc, bytes, place, change);
+    told(rt, alloc, said, &bytes)
 }
 
 /// A letter for each place.
-fn line(alloc: Global, said: &mut String, bytes: &[u8], change: Change) -> Result<(), Fail> {
+fn line(rt: &impl Abort, alloc: Global, said: &mut String, bytes: &[u8], change: Change) {
     for place in 0..bytes.len() {
-        tell_changed(alloc, said, bytes, place, change)?;
+        tell_changed(rt, alloc, said, bytes, place, change);
     }
-    Ok(said.push_str("\n")?)
+    said.push_str("\n").expect(rt, "memory")
 }
 
 /// A line for each change, and in it a letter for each place.
-fn answers(alloc: Global, bytes: &[u8]) -> Result<String, Fail> {
+fn answers(rt: &impl Abort, alloc: Global, bytes: &[u8]) -> String {
     let mut said = String::new(alloc);
     for change in CHANGES {
-        line(alloc, &mut said, bytes, change)?;
+        line(rt, alloc, &mut said, bytes, change);
     }
-    Ok(said)
+    said
 }
 
 #[test]
-fn each_byte_of_the_first(rt: HostRuntime) -> Result<(), Fail> {
-    let said = answers(rt.alloc(), FIRST)?;
+fn each_byte_of_the_first(rt: HostRuntime) {
+    let said = answers(&rt, rt.alloc(), FIRST);
     assert_eq!(rt;
         said.as_str(),
         "nnnnyyyyyyyynnnnnnnnnynyyyyyyynnnnnynnnnyny\n\
@@ -145,12 +140,11 @@ fn each_byte_of_the_first(rt: HostRuntime) -> Result<(), Fail> {
          nnnnnnnnnnnnnnnnnnnnnnnnnnnnnnnnnnnnnnnnnnn\n\
          nnnnnnnnnnnnnnnnnnnnnnnnnnnnnnnnnnnnnnnnnnn\n"
     );
-    Ok(())
 }
 
 #[test]
-fn each_byte_of_the_second(rt: HostRuntime) -> Result<(), Fail> {
-    let said = answers(rt.alloc(), SECOND)?;
+fn each_byte_of_the_second(rt: HostRuntime) {
+    let said = answers(&rt, rt.alloc(), SECOND);
     assert_eq!(rt;
         said.as_str(),
         "nnnnyyyyyyyynnnnnnnnnynnnnyynyyyyyyynnyyyyyyy\n\
@@ -159,12 +153,11 @@ fn each_byte_of_the_second(rt: HostRuntime) -> Result<(), Fail> {
          nnnnnnnnnnnnnnnnnnnnnnnnnnnnnnnnnnnnnnnnnnnnn\n\
          nnnnnnnnnnnnnnnnnnnnnnnnnnnnnnnnnnnnnnnnnnnnn\n"
     );
-    Ok(())
 }
 
 #[test]
-fn each_byte_of_the_third(rt: HostRuntime) -> Result<(), Fail> {
-    let said = answers(rt.alloc(), THIRD)?;
+fn each_byte_of_the_third(rt: HostRuntime) {
+    let said = answers(&rt, rt.alloc(), THIRD);
     assert_eq!(rt;
         said.as_str(),
         "nnnnyyyyyyyynnnnnnnnnynyyyyyyynnnnnynnnnynnnnnynnnnnnynnnnynnnnynnnnnynynnnnnnnynnnnynnnnynnnnnnnnnnnnnyynnnnnnynnnnynyyyyyyynnnnnynnnnynnnnynnnnnynnnnyynnnnynnnnnynnnnynnnnnynnnnynnnnny\n\
@@ -173,13 +166,12 @@ fn each_byte_of_the_third(rt: HostRuntime) -> Result<(), Fail> {
          nnnnnnnnnnnnnnnnnnnnnnnnnnnnnnnnnnnnnnnnnnnnnnnnnnnnnnnnnnnnnnnnnnnnnnnnnnnnnnnnnnnnnnnnnnnnnnnnnnnnnnnnnnnnnnnnnnnnnnnnnnnnnnnnnnnnnnnnnnnnnnnnnnnnnnnnnnnnnnnnnnnnnnnnnnnnnnnnnnnnnnnnnn\n\
          nnnnnnnnnnnnnnnnnnnnnnnnnnnnnnnnnnnnnnnnnnnnnnnnnnnnnnnnnnnnnnnnnnnnnnnnnnnnnnnnnnnnnnnnnnnnnnnnnnnnnnnnnnnnnnnnnnnnnnnnnnnnnnnnnnnnnnnnnnnnnnnnnnnnnnnnnnnnnnnnnnnnnnnnnnnnnnnnnnnnnnnnnn\n"
     );
-    Ok(())
 }
 
 /// The last record of the batch, written again.
-fn rewritten(alloc: Global, bytes: &[u8]) -> Result<Vec<u8>, Fail> {
+fn rewritten(rt: &impl Abort, alloc: Global, bytes: &[u8]) -> Vec<u8> {
     let mut out = Vec::new(alloc);
-    let mut records = read_batch(alloc, bytes)?.into_vec();
+    let mut records = read_batch(alloc, bytes).expect(rt, "a batch").into_vec();
     if let Some(record) = records.pop() {
         let trace = TxTrace {
             number: record.number,
@@ -189,22 +181,21 @@ fn rewritten(alloc: Global, bytes: &[u8]) -> Result<Vec<u8>, Fail> {
             lines: Events::new(alloc),
             outcome: Outcome::Committed,
         };
-        write_record(&mut out, &trace)?;
+        write_record(&mut out, &trace).expect(rt, "memory");
     }
-    Ok(out)
+    out
 }
 
-fn is_written_again(alloc: Global, bytes: &[u8]) -> Result<bool, Fail> {
-    let out = rewritten(alloc, bytes)?;
-    Ok(out.as_slice().get(0..) == bytes.get(4..))
+fn is_written_again(rt: &impl Abort, alloc: Global, bytes: &[u8]) -> bool {
+    let out = rewritten(rt, alloc, bytes);
+    out.as_slice().get(0..) == bytes.get(4..)
 }
 
 #[test]
-fn records_are_written_as_they_were_read(rt: HostRuntime) -> Result<(), Fail> {
+fn records_are_written_as_they_were_read(rt: HostRuntime) {
     for bytes in [FIRST, SECOND, THIRD] {
-        assert!(rt; is_written_again(rt.alloc(), bytes)?);
+        assert!(rt; is_written_again(&rt, rt.alloc(), bytes));
     }
-    Ok(())
 }
 
 const TRIED: [&[u8]; 6] = [
@@ -216,18 +207,17 @@ const TRIED: [&[u8]; 6] = [
     b"\0\0\0\x02\0\0\0\0\0\0\0\x01\0\0\0\0\0\0\0\0\0\0\0\x02\0\0\0\0",
 ];
 
-fn tried(alloc: Global) -> Result<String, Fail> {
+fn tried(rt: &impl Abort, alloc: Global) -> String {
     let mut said = String::new(alloc);
     for bytes in TRIED {
-        told(alloc, &mut said, bytes)?;
+        told(rt, alloc, &mut said, bytes);
     }
-    Ok(said)
+    said
 }
 
 /// No record at all, more records than there are, and more bytes than the batch; and then two records.
 #[test]
-fn counts_and_ends(rt: HostRuntime) -> Result<(), Fail> {
-    let said = tried(rt.alloc())?;
+fn counts_and_ends(rt: HostRuntime) {
+    let said = tried(&rt, rt.alloc());
     assert_eq!(rt; said.as_str(), "nnnnny");
-    Ok(())
 }

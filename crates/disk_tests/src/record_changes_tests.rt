@@ -3,8 +3,8 @@ use idb_databases::Databases;
 use index_tables::{FlatTables, Tables};
 use record_bytes::read_batch;
 use record_changes::{RecordError, change_by_record};
-use std::alloc::{AllocError, Global};
-use std::test::Fail;
+use std::alloc::Global;
+use std::process::Abort;
 
 /// A change of store s of database d, or what is done with the changes so far.
 #[derive(Clone, Copy)]
@@ -29,50 +29,51 @@ enum Step {
     Show,
 }
 
-fn put_bytes(out: &mut Vec<u8>, bytes: &[u8]) -> Result<(), AllocError> {
-    out.extend_from_slice(bytes)
+fn put_bytes(rt: &impl Abort, out: &mut Vec<u8>, bytes: &[u8]) {
+    out.extend_from_slice(bytes).expect(rt, "memory")
 }
 
-fn put_database(out: &mut Vec<u8>, name: u8) -> Result<(), AllocError> {
-    put_bytes(out, b"1\0\0\0\x01")?;
-    out.push(name)?;
-    put_bytes(out, b"\0\0\0\0\0\0\0\x01")
+fn put_database(rt: &impl Abort, out: &mut Vec<u8>, name: u8) {
+    put_bytes(rt, out, b"1\0\0\0\x01");
+    out.push(name).expect(rt, "memory");
+    put_bytes(rt, out, b"\0\0\0\0\0\0\0\x01")
 }
 
-fn put_seventeen(out: &mut Vec<u8>) -> Result<(), AllocError> {
+fn put_seventeen(rt: &impl Abort, out: &mut Vec<u8>) {
     for letter in b'a'..b'r' {
-        put_database(out, letter)?;
+        put_database(rt, out, letter);
     }
-    Ok(())
 }
 
-fn put_put(out: &mut Vec<u8>, key: u8, value: u8) -> Result<(), AllocError> {
-    put_bytes(out, b"7\0\0\0\x01d\0\0\0\x01s!\0\0\0\0\0\0\0")?;
-    out.push(key)?;
-    put_bytes(out, b"\x04\0\0\0\0\0\0\0")?;
-    out.push(value)?;
-    Ok(())
+fn put_put(rt: &impl Abort, out: &mut Vec<u8>, key: u8, value: u8) {
+    put_bytes(rt, out, b"7\0\0\0\x01d\0\0\0\x01s!\0\0\0\0\0\0\0");
+    out.push(key).expect(rt, "memory");
+    put_bytes(rt, out, b"\x04\0\0\0\0\0\0\0");
+    out.push(value).expect(rt, "memory");
 }
 
-fn put_remove(out: &mut Vec<u8>, key: u8) -> Result<(), AllocError> {
-    put_bytes(out, b"8\0\0\0\x01d\0\0\0\x01s!\0\0\0\0\0\0\0")?;
-    out.push(key)?;
-    Ok(())
+fn put_remove(rt: &impl Abort, out: &mut Vec<u8>, key: u8) {
+    put_bytes(rt, out, b"8\0\0\0\x01d\0\0\0\x01s!\0\0\0\0\0\0\0");
+    out.push(key).expect(rt, "memory");
 }
 
 /// Puts the bytes of the step's changes at the end.
-fn put_bytes_of(out: &mut Vec<u8>, step: Step) -> Result<(), AllocError> {
+fn put_bytes_of(rt: &impl Abort, out: &mut Vec<u8>, step: Step) {
     match step {
-        Step::Seventeen => put_seventeen(out),
-        Step::NoDatabase => put_bytes(out, b"2\0\0\0\x01q"),
-        Step::Database => put_database(out, b'd'),
-        Step::Store => put_bytes(out, b"3\0\0\0\x01d\0\0\0\x01s@\0"),
-        Step::NoStore => put_bytes(out, b"4\0\0\0\x01d\0\0\0\x01s"),
-        Step::Index => put_bytes(out, b"5\0\0\0\x01d\0\0\0\x01s\0\0\0\x01iA\0\0\0\0\x01\0"),
-        Step::NoIndex => put_bytes(out, b"6\0\0\0\x01d\0\0\0\x01s\0\0\0\x01i"),
-        Step::Put(key, value) => put_put(out, key, value),
-        Step::Remove(key) => put_remove(out, key),
-        Step::Fresh | Step::End | Step::Show => Ok(()),
+        Step::Seventeen => put_seventeen(rt, out),
+        Step::NoDatabase => put_bytes(rt, out, b"2\0\0\0\x01q"),
+        Step::Database => put_database(rt, out, b'd'),
+        Step::Store => put_bytes(rt, out, b"3\0\0\0\x01d\0\0\0\x01s@\0"),
+        Step::NoStore => put_bytes(rt, out, b"4\0\0\0\x01d\0\0\0\x01s"),
+        Step::Index => put_bytes(
+            rt,
+            out,
+            b"5\0\0\0\x01d\0\0\0\x01s\0\0\0\x01iA\0\0\0\0\x01\0",
+        ),
+        Step::NoIndex => put_bytes(rt, out, b"6\0\0\0\x01d\0\0\0\x01s\0\0\0\x01i"),
+        Step::Put(key, value) => put_put(rt, out, key, value),
+        Step::Remove(key) => put_remove(rt, out, key),
+        Step::Fresh | Step::End | Step::Show => {}
     }
 }
 
@@ -86,65 +87,67 @@ fn count_of(step: Step) -> u8 {
 }
 
 /// Puts the bytes of the change at the end, and tells how many changes these are.
-fn put_change(out: &mut Vec<u8>, step: Step) -> Result<u8, AllocError> {
-    put_bytes_of(out, step)?;
-    Ok(count_of(step))
+fn put_change(rt: &impl Abort, out: &mut Vec<u8>, step: Step) -> u8 {
+    put_bytes_of(rt, out, step);
+    count_of(step)
 }
 
 /// The batch of one record, of so many changes.
-fn batch(alloc: Global, count: u8, changes: &[u8]) -> Result<Vec<u8>, AllocError> {
+fn batch(rt: &impl Abort, alloc: Global, count: u8, changes: &[u8]) -> Vec<u8> {
     let mut out = Vec::new(alloc);
-    out.extend_from_slice(b"\0\0\0\x01\0\0\0\0\0\0\0\x01\0\0\0")?;
-    out.push(count)?;
-    out.extend_from_slice(changes)?;
-    Ok(out)
+    out.extend_from_slice(b"\0\0\0\x01\0\0\0\0\0\0\0\x01\0\0\0")
+        .expect(rt, "memory");
+    out.push(count).expect(rt, "memory");
+    out.extend_from_slice(changes).expect(rt, "memory");
+    out
 }
 
 /// Makes the last record of the batch.
 fn made<T: Tables>(
+    rt: &impl Abort,
     alloc: Global,
     items: &mut Databases<T>,
     bytes: &[u8],
-) -> Result<Result<(), RecordError>, Fail> {
-    let mut records = read_batch(alloc, bytes)?.into_vec();
+) -> Result<(), RecordError> {
+    let mut records = read_batch(alloc, bytes).expect(rt, "a batch").into_vec();
     match records.pop() {
-        Some(logged) => Ok(change_by_record(alloc, items, logged)),
-        None => Err(Fail::new("no record")),
+        Some(logged) => change_by_record(alloc, items, logged),
+        None => panic!(rt; "no record"),
     }
 }
 
-fn push(said: &mut String, s: &str) -> Result<(), Fail> {
-    Ok(said.push_str(s)?)
+fn push(rt: &impl Abort, said: &mut String, s: &str) {
+    said.push_str(s).expect(rt, "memory")
 }
 
-fn told(said: &mut String, answer: Result<(), RecordError>) -> Result<(), Fail> {
+fn told(rt: &impl Abort, said: &mut String, answer: Result<(), RecordError>) {
     match answer {
-        Ok(()) => push(said, "+"),
-        Err(RecordError::Damaged) => push(said, "-"),
-        Err(RecordError::NoMemory) => push(said, "?"),
+        Ok(()) => push(rt, said, "+"),
+        Err(RecordError::Damaged) => push(rt, said, "-"),
+        Err(RecordError::NoMemory) => push(rt, said, "?"),
     }
 }
 
-fn show<T: Tables>(said: &mut String, items: &Databases<T>) -> Result<(), Fail> {
+fn show<T: Tables>(rt: &impl Abort, said: &mut String, items: &Databases<T>) {
     if let Some(database) = items.at(0) {
         if let Some(store) = database.stores.at(0) {
-            write!(said, "{}/{} ", store.len(), store.info().indexes.len())?;
+            write!(said, "{}/{} ", store.len(), store.info().indexes.len()).expect(rt, "memory");
         }
     }
-    Ok(())
 }
 
 /// The record of the changes is made.
 fn end<T: Tables>(
+    rt: &impl Abort,
     alloc: Global,
     said: &mut String,
     items: &mut Databases<T>,
     count: u8,
     changes: &[u8],
-) -> Result<(), Fail> {
-    let bytes = batch(alloc, count, changes)?;
-    let answer = made(alloc, items, &bytes)?;
-    told(said, answer)
+) {
+    let bytes = batch(rt, alloc, count, changes);
+    let answer = made(rt, alloc, items, &bytes);
+    told(rt, said, answer)
 }
 
 /// The bytes of the changes so far, and how many they are.
@@ -154,43 +157,42 @@ struct Changes {
     count: u8,
 }
 
-fn add(changes: &mut Changes, step: Step) -> Result<(), Fail> {
-    let more = put_change(&mut changes.bytes, step)?;
+fn add(rt: &impl Abort, changes: &mut Changes, step: Step) {
+    let more = put_change(rt, &mut changes.bytes, step);
     changes.count = changes.count.wrapping_add(more);
-    Ok(())
 }
 
 fn make<T: Tables>(
+    rt: &impl Abort,
     alloc: Global,
     said: &mut String,
     items: &mut Databases<T>,
     changes: &mut Changes,
-) -> Result<(), Fail> {
-    end(alloc, said, items, changes.count, &changes.bytes)?;
+) {
+    end(rt, alloc, said, items, changes.count, &changes.bytes);
     changes.bytes.clear();
     changes.count = 0;
-    Ok(())
 }
 
 fn run<T: Tables>(
+    rt: &impl Abort,
     alloc: Global,
     said: &mut String,
     items: &mut Databases<T>,
     changes: &mut Changes,
     step: Step,
-) -> Result<(), Fail> {
+) {
     match step {
         Step::Fresh => {
             *items = Databases::new(alloc);
-            Ok(())
         }
-        Step::Show => show(said, items),
-        Step::End => make(alloc, said, items, changes),
-        change => add(changes, change),
+        Step::Show => show(rt, said, items),
+        Step::End => make(rt, alloc, said, items, changes),
+        change => add(rt, changes, change),
     }
 }
 
-fn answers<T: Tables>(alloc: Global, steps: &[Step]) -> Result<String, Fail> {
+fn answers<T: Tables>(rt: &impl Abort, alloc: Global, steps: &[Step]) -> String {
     let mut said = String::new(alloc);
     let mut items: Databases<T> = Databases::new(alloc);
     let mut changes = Changes {
@@ -198,9 +200,9 @@ fn answers<T: Tables>(alloc: Global, steps: &[Step]) -> Result<String, Fail> {
         count: 0,
     };
     for step in steps {
-        run(alloc, &mut said, &mut items, &mut changes, *step)?;
+        run(rt, alloc, &mut said, &mut items, &mut changes, *step);
     }
-    Ok(said)
+    said
 }
 
 const STEPS: [Step; 70] = [
@@ -284,8 +286,7 @@ const STEPS: [Step; 70] = [
 ];
 
 #[test]
-fn which_records_apply(rt: HostRuntime) -> Result<(), Fail> {
-    let said = answers::<FlatTables>(rt.alloc(), &STEPS)?;
+fn which_records_apply(rt: HostRuntime) {
+    let said = answers::<FlatTables>(&rt, rt.alloc(), &STEPS);
     assert_eq!(rt; said.as_str(), "+++2/1 -++1/1 +2/0 +1/1 -+2/0 -+--");
-    Ok(())
 }

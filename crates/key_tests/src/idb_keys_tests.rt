@@ -2,91 +2,96 @@ use clone_values::{Bytes, Key, Keys, Text};
 use idb_base::GREATEST_LENGTH;
 use idb_keys::*;
 use std::alloc::Global;
-use std::test::Fail;
+use std::process::Abort;
 
 /// Twelve keys that rise by the standard's words (Indexed Database API 3.0, "compare two keys"): by type, numbers and dates by value,
 /// strings by code units (U+10000 begins with D800, which is below FF61), binaries by bytes, arrays by members.
-fn rising_key(alloc: Global, place: usize) -> Result<Key, Fail> {
+fn rising_key(rt: &impl Abort, alloc: Global, place: usize) -> Key {
     match place {
-        0 => Ok(Key::Number(-1)),
-        1 => Ok(Key::Number(1)),
-        2 => Ok(Key::Date(-1)),
-        3 => Ok(Key::Date(0)),
-        4 => text_key(alloc, ""),
-        5 => text_key(alloc, "a"),
-        6 => text_key(alloc, "\u{10000}"),
-        7 => text_key(alloc, "\u{FF61}"),
-        8 => Ok(Key::Binary(Bytes::new(alloc))),
-        9 => byte_key(alloc, 255),
-        10 => Ok(Key::Array(Keys::new(alloc))),
-        _ => array_key(alloc, 1),
+        0 => Key::Number(-1),
+        1 => Key::Number(1),
+        2 => Key::Date(-1),
+        3 => Key::Date(0),
+        4 => text_key(rt, alloc, ""),
+        5 => text_key(rt, alloc, "a"),
+        6 => text_key(rt, alloc, "\u{10000}"),
+        7 => text_key(rt, alloc, "\u{FF61}"),
+        8 => Key::Binary(Bytes::new(alloc)),
+        9 => byte_key(rt, alloc, 255),
+        10 => Key::Array(Keys::new(alloc)),
+        _ => array_key(rt, alloc, 1),
     }
 }
 
-fn text_key(alloc: Global, s: &str) -> Result<Key, Fail> {
-    if s.len() > GREATEST_LENGTH {
-        return Err(Fail::new("a text that is too long"));
-    }
-    Ok(Key::Text(Text::copy_of(alloc, s)?))
+fn text_key(rt: &impl Abort, alloc: Global, s: &str) -> Key {
+    assert!(rt; s.len() <= GREATEST_LENGTH);
+    Key::Text(Text::copy_of(alloc, s).expect(rt, "memory"))
 }
 
 /// A binary of one byte.
-fn byte_key(alloc: Global, byte: u8) -> Result<Key, Fail> {
+fn byte_key(rt: &impl Abort, alloc: Global, byte: u8) -> Key {
     let mut bytes = Bytes::new(alloc);
-    bytes.push(byte)?;
-    Ok(Key::Binary(bytes))
+    bytes.push(byte).expect(rt, "memory");
+    Key::Binary(bytes)
 }
 
 /// An array of one number.
-fn array_key(alloc: Global, number: i64) -> Result<Key, Fail> {
+fn array_key(rt: &impl Abort, alloc: Global, number: i64) -> Key {
     let mut keys = Keys::new(alloc);
-    keys.push(Key::Number(number))?;
-    Ok(Key::Array(keys))
+    keys.push(Key::Number(number)).expect(rt, "memory");
+    Key::Array(keys)
 }
 
 /// An x for each of the twelve keys that the range includes, and a full stop for the others.
-fn picture(alloc: Global, range: &KeyRange) -> Result<String, Fail> {
+fn picture(rt: &impl Abort, alloc: Global, range: &KeyRange) -> String {
     let mut marks = String::new(alloc);
     for place in 0..12 {
-        marks.push(mark(alloc, range, place)?)?;
+        marks
+            .push(mark(rt, alloc, range, place))
+            .expect(rt, "memory");
     }
-    Ok(marks)
+    marks
 }
 
-fn mark(alloc: Global, range: &KeyRange, place: usize) -> Result<char, Fail> {
-    let key = rising_key(alloc, place)?;
-    Ok(if range.includes(&key) { 'x' } else { '.' })
+fn mark(rt: &impl Abort, alloc: Global, range: &KeyRange, place: usize) -> char {
+    let key = rising_key(rt, alloc, place);
+    if range.includes(&key) { 'x' } else { '.' }
 }
 
 /// The range with bounds at these places of the twelve keys; without any, the range of all keys.
-fn range_of(alloc: Global, lower: Place, upper: Place) -> Result<KeyRange, Fail> {
+fn range_of(rt: &impl Abort, alloc: Global, lower: Place, upper: Place) -> KeyRange {
     match (lower, upper) {
-        (Some(low), Some(high)) => range_between(alloc, low, high),
-        (Some(low), None) => range_above(alloc, low),
-        (None, Some(high)) => range_below(alloc, high),
-        (None, None) => Ok(KeyRange::all()),
+        (Some(low), Some(high)) => range_between(rt, alloc, low, high),
+        (Some(low), None) => range_above(rt, alloc, low),
+        (None, Some(high)) => range_below(rt, alloc, high),
+        (None, None) => KeyRange::all(),
     }
 }
 
-fn range_above(alloc: Global, low: (usize, bool)) -> Result<KeyRange, Fail> {
-    Ok(KeyRange::lower(rising_key(alloc, low.0)?, low.1))
+fn range_above(rt: &impl Abort, alloc: Global, low: (usize, bool)) -> KeyRange {
+    KeyRange::lower(rising_key(rt, alloc, low.0), low.1)
 }
 
-fn range_below(alloc: Global, high: (usize, bool)) -> Result<KeyRange, Fail> {
-    Ok(KeyRange::upper(rising_key(alloc, high.0)?, high.1))
+fn range_below(rt: &impl Abort, alloc: Global, high: (usize, bool)) -> KeyRange {
+    KeyRange::upper(rising_key(rt, alloc, high.0), high.1)
 }
 
-fn range_between(alloc: Global, low: (usize, bool), high: (usize, bool)) -> Result<KeyRange, Fail> {
-    let lower = rising_key(alloc, low.0)?;
-    let upper = rising_key(alloc, high.0)?;
-    Ok(KeyRange::bound(lower, upper, low.1, high.1)?)
+fn range_between(
+    rt: &impl Abort,
+    alloc: Global,
+    low: (usize, bool),
+    high: (usize, bool),
+) -> KeyRange {
+    let lower = rising_key(rt, alloc, low.0);
+    let upper = rising_key(rt, alloc, high.0);
+    KeyRange::bound(lower, upper, low.1, high.1).expect(rt, "a range")
 }
 
 type Place = Option<(usize, bool)>;
 
-fn picture_between(alloc: Global, lower: Place, upper: Place) -> Result<String, Fail> {
-    let range = range_of(alloc, lower, upper)?;
-    picture(alloc, &range)
+fn picture_between(rt: &impl Abort, alloc: Global, lower: Place, upper: Place) -> String {
+    let range = range_of(rt, alloc, lower, upper);
+    picture(rt, alloc, &range)
 }
 
 /// The lower bound, the upper bound and what the range includes.
@@ -117,12 +122,11 @@ static ROWS: [(Place, Place, &str); 22] = [
 
 /// Which keys a range includes, over open and closed bounds and keys of all types.
 #[test]
-fn ranges_include_by_their_bounds(rt: HostRuntime) -> Result<(), Fail> {
+fn ranges_include_by_their_bounds(rt: HostRuntime) {
     for (lower, upper, expected) in &ROWS {
-        let marks = picture_between(rt.alloc(), *lower, *upper)?;
+        let marks = picture_between(&rt, rt.alloc(), *lower, *upper);
         assert_eq!(rt; marks.as_str(), *expected);
     }
-    Ok(())
 }
 
 /// Numbers as bounds, which of them are open, and whether `bound` takes them.
@@ -156,8 +160,8 @@ fn is_closed_one(bound: Option<(&Key, bool)>) -> bool {
 }
 
 /// The range from 1 to 1.
-fn one_to_one() -> Result<KeyRange, Fail> {
-    Ok(KeyRange::bound(Key::Number(1), Key::Number(1), false, false)?)
+fn one_to_one(rt: &impl Abort) -> KeyRange {
+    KeyRange::bound(Key::Number(1), Key::Number(1), false, false).expect(rt, "a range")
 }
 
 fn includes_one_alone(range: &KeyRange) -> bool {
@@ -168,9 +172,9 @@ fn is_bounded_by_one(range: &KeyRange) -> bool {
     is_closed_one(range.lower_bound()) && is_closed_one(range.upper_bound())
 }
 
-fn one_is_as_given() -> Result<bool, Fail> {
-    let one = one_to_one()?;
-    Ok(includes_one_alone(&one) && is_bounded_by_one(&one))
+fn one_is_as_given(rt: &impl Abort) -> bool {
+    let one = one_to_one(rt);
+    includes_one_alone(&one) && is_bounded_by_one(&one)
 }
 
 fn lower_alone_has_upper_bound() -> bool {
@@ -178,37 +182,34 @@ fn lower_alone_has_upper_bound() -> bool {
     range.upper_bound().is_some()
 }
 
-fn only_includes_itself(alloc: Global, number: i64) -> Result<bool, Fail> {
-    let range = KeyRange::only(alloc, Key::Number(number))?;
-    Ok(includes(&range, number))
+fn only_includes_itself(rt: &impl Abort, alloc: Global, number: i64) -> bool {
+    let range = KeyRange::only(alloc, Key::Number(number)).expect(rt, "memory");
+    includes(&range, number)
 }
 
 /// `bound` refuses a lower bound above the upper one, and two equal bounds of which one is open.
 #[test]
-fn bounds_that_exclude_each_other_are_refused(rt: HostRuntime) -> Result<(), Fail> {
+fn bounds_that_exclude_each_other_are_refused(rt: HostRuntime) {
     for (lower, upper, lower_open, upper_open, taken) in &BOUNDS {
         assert_eq!(rt; is_taken(*lower, *upper, *lower_open, *upper_open), *taken);
     }
-    Ok(())
 }
 
 /// A range of one number has this number; one without an upper bound says so.
 #[test]
-fn bounds_are_as_given(rt: HostRuntime) -> Result<(), Fail> {
-    assert!(rt; one_is_as_given()?);
+fn bounds_are_as_given(rt: HostRuntime) {
+    assert!(rt; one_is_as_given(&rt));
     assert!(rt; !lower_alone_has_upper_bound());
-    assert!(rt; only_includes_itself(rt.alloc(), 3)?);
-    Ok(())
+    assert!(rt; only_includes_itself(&rt, rt.alloc(), 3));
 }
 
 /// A name is printed as it is.
 #[test]
-fn error_names_are_printed(rt: HostRuntime) -> Result<(), Fail> {
+fn error_names_are_printed(rt: HostRuntime) {
     let name = ErrorName::TransactionInactiveError;
-    let printed = name.to_string(rt.alloc())?;
+    let printed = name.to_string(rt.alloc()).expect(&rt, "memory");
     assert_eq!(rt;
         (name.name(), printed.as_str()),
         ("TransactionInactiveError", "TransactionInactiveError")
     );
-    Ok(())
 }

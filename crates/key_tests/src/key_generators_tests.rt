@@ -1,7 +1,7 @@
 use clone_values::{Bytes, Key, Keys, Text};
 use key_generators::*;
 use std::alloc::Global;
-use std::test::Fail;
+use std::process::Abort;
 
 /// The keys that the generator's rows note: numbers from far below 0 to far above 2^53, then one key of each other type.
 static NUMBERS: [i64; 10] = [
@@ -17,19 +17,19 @@ static NUMBERS: [i64; 10] = [
     9007199254740993,
 ];
 
-fn other_key(alloc: Global, place: usize) -> Result<Key, Fail> {
+fn other_key(rt: &impl Abort, alloc: Global, place: usize) -> Key {
     match place {
-        0 => Ok(Key::Date(99)),
-        1 => Ok(Key::Text(Text::copy_of(alloc, "99")?)),
-        2 => Ok(Key::Binary(Bytes::new(alloc))),
-        _ => array_key(alloc),
+        0 => Key::Date(99),
+        1 => Key::Text(Text::copy_of(alloc, "99").expect(rt, "memory")),
+        2 => Key::Binary(Bytes::new(alloc)),
+        _ => array_key(rt, alloc),
     }
 }
 
-fn array_key(alloc: Global) -> Result<Key, Fail> {
+fn array_key(rt: &impl Abort, alloc: Global) -> Key {
     let mut keys = Keys::new(alloc);
-    keys.push(Key::Number(99))?;
-    Ok(Key::Array(keys))
+    keys.push(Key::Number(99)).expect(rt, "memory");
+    Key::Array(keys)
 }
 
 /// A generator with this current number.
@@ -97,11 +97,10 @@ static ROWS: [(u64, i64, u64); 14] = [
 
 /// A number key that is not less than the current number sets it to one more, up to the limit.
 #[test]
-fn number_keys_are_passed(rt: HostRuntime) -> Result<(), Fail> {
+fn number_keys_are_passed(rt: HostRuntime) {
     for (current, number, expected) in &ROWS {
         assert_eq!(rt; after_number(*current, *number), *expected);
     }
-    Ok(())
 }
 
 /// Whether each of the numbers is noted by the standard's words.
@@ -116,7 +115,7 @@ fn are_noted(current: u64) -> bool {
 
 /// The same as by the standard's words, from several current numbers.
 #[test]
-fn number_keys_are_passed_as_by_the_standard(rt: HostRuntime) -> Result<(), Fail> {
+fn number_keys_are_passed_as_by_the_standard(rt: HostRuntime) {
     for current in [
         1,
         2,
@@ -127,27 +126,24 @@ fn number_keys_are_passed_as_by_the_standard(rt: HostRuntime) -> Result<(), Fail
     ] {
         assert!(rt; are_noted(current), "{current}");
     }
-    Ok(())
 }
 
 /// Keys of other types change nothing.
 #[test]
-fn other_keys_change_nothing(rt: HostRuntime) -> Result<(), Fail> {
+fn other_keys_change_nothing(rt: HostRuntime) {
     for place in 0..4 {
-        let key = other_key(rt.alloc(), place)?;
+        let key = other_key(&rt, rt.alloc(), place);
         assert_eq!(rt; after_key(&key), 1);
     }
-    Ok(())
 }
 
 /// The numbers count up from 1.
 #[test]
-fn numbers_count_up(rt: HostRuntime) -> Result<(), Fail> {
+fn numbers_count_up(rt: HostRuntime) {
     let mut generator = Generator::new();
     for expected in 1..4 {
         assert_eq!(rt; given(&mut generator), expected);
     }
-    Ok(())
 }
 
 /// A generator that gave 1, 2 and 3 and noted 2^53 - 1.
@@ -162,21 +158,19 @@ fn nearly_spent() -> Generator {
 
 /// The numbers that count up end with 2^53.
 #[test]
-fn numbers_count_up_and_end(rt: HostRuntime) -> Result<(), Fail> {
+fn numbers_count_up_and_end(rt: HostRuntime) {
     let mut generator = nearly_spent();
     assert_eq!(rt; given(&mut generator), 9007199254740992);
     for _ in 0..2 {
         let answer = given(&mut generator);
         assert_eq!(rt; (answer, generator.current()), (0, 9007199254740993));
     }
-    Ok(())
 }
 
 /// A generator that noted 2^53 gives nothing.
 #[test]
-fn a_spent_generator_gives_nothing(rt: HostRuntime) -> Result<(), Fail> {
+fn a_spent_generator_gives_nothing(rt: HostRuntime) {
     let mut spent = Generator::new();
     spent.note_key(&Key::Number(9007199254740992));
     assert_eq!(rt; given(&mut spent), 0);
-    Ok(())
 }

@@ -4,7 +4,6 @@ use key_order::*;
 use std::alloc::Global;
 use std::cmp::Ordering;
 use std::process::Abort;
-use std::test::Fail;
 
 /// A key in short: a number, a date, a string, a binary, or an array of numbers, of strings or of such arrays.
 #[derive(Clone, Copy, Debug)]
@@ -20,54 +19,52 @@ enum Short {
 
 use Short::{Arrays, Binary, Date, Number, Numbers, Texts};
 
-fn text(alloc: Global, s: &str) -> Result<Key, Fail> {
-    if s.len() > GREATEST_LENGTH {
-        return Err(Fail::new("a text that is too long"));
-    }
-    Ok(Key::Text(Text::copy_of(alloc, s)?))
+fn text(rt: &impl Abort, alloc: Global, s: &str) -> Key {
+    assert!(rt; s.len() <= GREATEST_LENGTH);
+    Key::Text(Text::copy_of(alloc, s).expect(rt, "memory"))
 }
 
-fn numbers(rt: &impl Abort, alloc: Global, all: &[i64]) -> Result<Key, Fail> {
+fn numbers(rt: &impl Abort, alloc: Global, all: &[i64]) -> Key {
     let mut keys = Keys::new(alloc);
     for n in all {
         assert!(rt; keys.len() < 100);
-        keys.push(Key::Number(*n))?;
+        keys.push(Key::Number(*n)).expect(rt, "memory");
     }
-    Ok(Key::Array(keys))
+    Key::Array(keys)
 }
 
-fn binary(rt: &impl Abort, alloc: Global, all: &[u8]) -> Result<Key, Fail> {
+fn binary(rt: &impl Abort, alloc: Global, all: &[u8]) -> Key {
     let mut bytes = Bytes::new(alloc);
     for b in all {
         assert!(rt; bytes.len() < 100);
-        bytes.push(*b)?;
+        bytes.push(*b).expect(rt, "memory");
     }
-    Ok(Key::Binary(bytes))
+    Key::Binary(bytes)
 }
 
-fn texts(rt: &impl Abort, alloc: Global, all: &[&'static str]) -> Result<Key, Fail> {
+fn texts(rt: &impl Abort, alloc: Global, all: &[&'static str]) -> Key {
     let mut keys = Keys::new(alloc);
     for s in all {
         assert!(rt; keys.len() < 100);
-        keys.push(text(alloc, s)?)?;
+        keys.push(text(rt, alloc, s)).expect(rt, "memory");
     }
-    Ok(Key::Array(keys))
+    Key::Array(keys)
 }
 
-fn arrays(rt: &impl Abort, alloc: Global, all: &[&'static [i64]]) -> Result<Key, Fail> {
+fn arrays(rt: &impl Abort, alloc: Global, all: &[&'static [i64]]) -> Key {
     let mut keys = Keys::new(alloc);
     for part in all {
         assert!(rt; keys.len() < 100);
-        keys.push(numbers(rt, alloc, part)?)?;
+        keys.push(numbers(rt, alloc, part)).expect(rt, "memory");
     }
-    Ok(Key::Array(keys))
+    Key::Array(keys)
 }
 
-fn key(rt: &impl Abort, alloc: Global, short: &Short) -> Result<Key, Fail> {
+fn key(rt: &impl Abort, alloc: Global, short: &Short) -> Key {
     match short {
-        Short::Number(n) => Ok(Key::Number(*n)),
-        Short::Date(d) => Ok(Key::Date(*d)),
-        Short::Text(s) => text(alloc, s),
+        Short::Number(n) => Key::Number(*n),
+        Short::Date(d) => Key::Date(*d),
+        Short::Text(s) => text(rt, alloc, s),
         Short::Binary(all) => binary(rt, alloc, all),
         Short::Numbers(all) => numbers(rt, alloc, all),
         Short::Texts(all) => texts(rt, alloc, all),
@@ -76,10 +73,10 @@ fn key(rt: &impl Abort, alloc: Global, short: &Short) -> Result<Key, Fail> {
 }
 
 /// How the first key compares with the second one.
-fn order(rt: &impl Abort, alloc: Global, first: &Short, second: &Short) -> Result<Ordering, Fail> {
-    let a = key(rt, alloc, first)?;
-    let b = key(rt, alloc, second)?;
-    Ok(compare(&a, &b))
+fn order(rt: &impl Abort, alloc: Global, first: &Short, second: &Short) -> Ordering {
+    let a = key(rt, alloc, first);
+    let b = key(rt, alloc, second);
+    compare(&a, &b)
 }
 
 /// Pairs of which the first key is less, by the text of "compare two keys" (Indexed Database API 3.0): an array is
@@ -161,65 +158,67 @@ const ALONE: [Short; 8] = [
 
 /// 56 rising pairs, each from both sides.
 #[test]
-fn keys_compare_as_stated(rt: HostRuntime) -> Result<(), Fail> {
+fn keys_compare_as_stated(rt: HostRuntime) {
     for (less, greater) in &RISING {
-        let rises = order(&rt, rt.alloc(), less, greater)?;
-        let falls = order(&rt, rt.alloc(), greater, less)?;
+        let rises = order(&rt, rt.alloc(), less, greater);
+        let falls = order(&rt, rt.alloc(), greater, less);
         assert_eq!(rt;
             (rises, falls),
             (Ordering::Less, Ordering::Greater),
             "{less:?} {greater:?}"
         );
     }
-    Ok(())
 }
 
 /// The key at this place of `ALONE` is equal to no other one there.
-fn check_alone(rt: &impl Abort, alloc: Global, i: usize, first: &Short) -> Result<(), Fail> {
+fn check_alone(rt: &impl Abort, alloc: Global, i: usize, first: &Short) {
     for (j, second) in ALONE.iter().enumerate() {
-        let is_equal = order(rt, alloc, first, second)? == Ordering::Equal;
+        let is_equal = order(rt, alloc, first, second) == Ordering::Equal;
         assert_eq!(rt; is_equal, i == j, "{first:?} {second:?}");
     }
-    Ok(())
 }
 
 /// 64 pairs of the keys in `ALONE`.
 #[test]
-fn keys_are_equal_to_themselves_alone(rt: HostRuntime) -> Result<(), Fail> {
+fn keys_are_equal_to_themselves_alone(rt: HostRuntime) {
     for (i, first) in ALONE.iter().enumerate() {
-        check_alone(&rt, rt.alloc(), i, first)?;
+        check_alone(&rt, rt.alloc(), i, first);
     }
-    Ok(())
 }
 
 /// A million equal characters.
-fn million(alloc: Global) -> Result<String, Fail> {
+fn million(rt: &impl Abort, alloc: Global) -> String {
     let mut long = String::new(alloc);
     for _ in 0..1_000_000 {
-        long.push('\u{20AC}')?;
+        long.push('\u{20AC}').expect(rt, "memory");
     }
-    Ok(long)
+    long
 }
 
 /// How the texts of two strings compare.
-fn order_of_texts(alloc: Global, first: &str, second: &str) -> Result<Ordering, Fail> {
-    let a = text(alloc, first)?;
-    let b = text(alloc, second)?;
-    Ok(compare(&a, &b))
+fn order_of_texts(rt: &impl Abort, alloc: Global, first: &str, second: &str) -> Ordering {
+    let a = text(rt, alloc, first);
+    let b = text(rt, alloc, second);
+    compare(&a, &b)
 }
 
 /// Two texts of a million equal characters, of which the last differs or is missing.
 #[test]
-fn long_texts_compare_in_one_pass(rt: HostRuntime) -> Result<(), Fail> {
-    let long = million(rt.alloc())?;
-    let mut longer = long.clone()?;
-    longer.push('a')?;
+fn long_texts_compare_in_one_pass(rt: HostRuntime) {
+    let long = million(&rt, rt.alloc());
+    let mut longer = long.clone().expect(&rt, "memory");
+    longer.push('a').expect(&rt, "memory");
     let (long, longer) = (long.as_str(), longer.as_str());
-    assert_eq!(rt; order_of_texts(rt.alloc(), long, long)?, Ordering::Equal);
-    assert_eq!(rt; order_of_texts(rt.alloc(), long, longer)?, Ordering::Less);
     assert_eq!(rt;
-        order_of_texts(rt.alloc(), longer, long)?,
+        order_of_texts(&rt, rt.alloc(), long, long),
+        Ordering::Equal
+    );
+    assert_eq!(rt;
+        order_of_texts(&rt, rt.alloc(), long, longer),
+        Ordering::Less
+    );
+    assert_eq!(rt;
+        order_of_texts(&rt, rt.alloc(), longer, long),
         Ordering::Greater
     );
-    Ok(())
 }

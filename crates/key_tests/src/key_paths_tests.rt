@@ -6,25 +6,20 @@ use key_paths::*;
 use path_grammar::KeyPath;
 use std::alloc::Global;
 use std::process::Abort;
-use std::test::Fail;
 
-fn text(alloc: Global, s: &str) -> Result<Text, Fail> {
-    if s.len() > GREATEST_LENGTH {
-        return Err(Fail::new("a text that is too long"));
-    }
-    Ok(Text::copy_of(alloc, s)?)
+fn text(rt: &impl Abort, alloc: Global, s: &str) -> Text {
+    assert!(rt; s.len() <= GREATEST_LENGTH);
+    Text::copy_of(alloc, s).expect(rt, "memory")
 }
 
-fn text_value(alloc: Global, s: &str) -> Result<Value, Fail> {
-    Ok(Value::Text(text(alloc, s)?))
+fn text_value(rt: &impl Abort, alloc: Global, s: &str) -> Value {
+    Value::Text(text(rt, alloc, s))
 }
 
-fn array(alloc: Global, items: Vec<Value>) -> Result<Value, Fail> {
-    if items.len() > GREATEST_LENGTH {
-        return Err(Fail::new("an array that is too long"));
-    }
-    let items = Items::from_vec(alloc, items)?;
-    Ok(Value::Array(items, Props::new(alloc)))
+fn array(rt: &impl Abort, alloc: Global, items: Vec<Value>) -> Value {
+    assert!(rt; items.len() <= GREATEST_LENGTH);
+    let items = Items::from_vec(alloc, items).expect(rt, "memory");
+    Value::Array(items, Props::new(alloc))
 }
 
 /// A value in short.
@@ -43,111 +38,98 @@ enum Short {
     Set,
 }
 
-fn bytes_value(rt: &impl Abort, alloc: Global, all: &[u8]) -> Result<Value, Fail> {
+fn bytes_value(rt: &impl Abort, alloc: Global, all: &[u8]) -> Value {
     let mut bytes = Bytes::new(alloc);
     for b in all {
         assert!(rt; bytes.len() < 100);
-        bytes.push(*b)?;
+        bytes.push(*b).expect(rt, "memory");
     }
-    Ok(Value::Bytes(bytes))
+    Value::Bytes(bytes)
 }
 
-fn value(rt: &impl Abort, alloc: Global, short: Short) -> Result<Value, Fail> {
+fn value(rt: &impl Abort, alloc: Global, short: Short) -> Value {
     match short {
-        Short::Undefined => Ok(Value::Undefined),
-        Short::Null => Ok(Value::Null),
-        Short::True => Ok(Value::Bool(true)),
-        Short::Int(n) => Ok(Value::Int(n)),
-        Short::Date(d) => Ok(Value::Date(d)),
-        Short::Text(s) => text_value(alloc, s),
+        Short::Undefined => Value::Undefined,
+        Short::Null => Value::Null,
+        Short::True => Value::Bool(true),
+        Short::Int(n) => Value::Int(n),
+        Short::Date(d) => Value::Date(d),
+        Short::Text(s) => text_value(rt, alloc, s),
         Short::Bytes(all) => bytes_value(rt, alloc, all),
-        Short::Function => Ok(Value::Function),
-        Short::Object => Ok(Value::Object(Props::new(alloc))),
-        Short::Map => Ok(Value::Map(Pairs::new(alloc))),
-        Short::Set => Ok(Value::Set(Items::new(alloc))),
+        Short::Function => Value::Function,
+        Short::Object => Value::Object(Props::new(alloc)),
+        Short::Map => Value::Map(Pairs::new(alloc)),
+        Short::Set => Value::Set(Items::new(alloc)),
     }
 }
 
 /// The Array of these values.
-fn array_of(rt: &impl Abort, alloc: Global, all: &[Short]) -> Result<Value, Fail> {
+fn array_of(rt: &impl Abort, alloc: Global, all: &[Short]) -> Value {
     let mut items = Vec::new(alloc);
     for short in all {
-        items.push(value(rt, alloc, *short)?)?;
+        items.push(value(rt, alloc, *short)).expect(rt, "memory");
     }
-    array(alloc, items)
+    array(rt, alloc, items)
 }
 
-fn set(
-    rt: &impl Abort,
-    alloc: Global,
-    props: &mut Props,
-    name: &str,
-    inner: Value,
-) -> Result<(), Fail> {
+fn set(rt: &impl Abort, alloc: Global, props: &mut Props, name: &str, inner: Value) {
     assert!(rt; props.len() < 100);
-    props.set(text(alloc, name)?, inner)?;
-    Ok(())
+    props.set(text(rt, alloc, name), inner).expect(rt, "memory");
 }
 
 /// Gives the Object or Array one more property.
-fn add(
-    rt: &impl Abort,
-    alloc: Global,
-    value: &mut Value,
-    name: &str,
-    inner: Value,
-) -> Result<(), Fail> {
+fn add(rt: &impl Abort, alloc: Global, value: &mut Value, name: &str, inner: Value) {
     match value {
         Value::Object(props) => set(rt, alloc, props, name, inner),
         Value::Array(_, props) => set(rt, alloc, props, name, inner),
-        _ => Ok(()),
+        _ => {}
     }
 }
 
 /// The Object with this one property.
-fn object(rt: &impl Abort, alloc: Global, name: &str, inner: Value) -> Result<Value, Fail> {
+fn object(rt: &impl Abort, alloc: Global, name: &str, inner: Value) -> Value {
     let mut props = Props::new(alloc);
-    set(rt, alloc, &mut props, name, inner)?;
-    Ok(Value::Object(props))
+    set(rt, alloc, &mut props, name, inner);
+    Value::Object(props)
 }
 
 /// Arrays nested so deep, the innermost one empty.
-fn nested(alloc: Global, depth: u32) -> Result<Value, Fail> {
-    let mut value = array(alloc, Vec::new(alloc))?;
+fn nested(rt: &impl Abort, alloc: Global, depth: u32) -> Value {
+    let mut value = array(rt, alloc, Vec::new(alloc));
     for _ in 1..depth {
-        value = array(alloc, vec![in alloc; value]?)?;
+        value = array(rt, alloc, vec![in alloc; value].expect(rt, "memory"));
     }
-    Ok(value)
+    value
 }
 
-fn path(alloc: Global, s: &str) -> Result<KeyPath, Fail> {
-    Ok(KeyPath::parse(PathSpec::One(text(alloc, s)?))?)
+fn path(rt: &impl Abort, alloc: Global, s: &str) -> KeyPath {
+    KeyPath::parse(PathSpec::One(text(rt, alloc, s))).expect(rt, "a path")
 }
 
-fn paths(rt: &impl Abort, alloc: Global, all: &[&str]) -> Result<KeyPath, Fail> {
+fn paths(rt: &impl Abort, alloc: Global, all: &[&str]) -> KeyPath {
     let mut strings = Texts::new(alloc);
     for s in all {
         assert!(rt; strings.len() < 100);
-        strings.push(text(alloc, s)?)?;
+        strings.push(text(rt, alloc, s)).expect(rt, "memory");
     }
-    Ok(KeyPath::parse(PathSpec::Many(strings))?)
+    KeyPath::parse(PathSpec::Many(strings)).expect(rt, "a list of paths")
 }
 
 /// Whether the value has a key, and this key's value is the value again.
-fn is_its_key(alloc: Global, value: &Value) -> Result<bool, Fail> {
-    match to_key(alloc, value)? {
-        Some(key) => is_value_of(alloc, &key, value),
-        None => Ok(false),
+fn is_its_key(rt: &impl Abort, alloc: Global, value: &Value) -> bool {
+    match to_key(alloc, value).expect(rt, "memory") {
+        Some(key) => is_value_of(rt, alloc, &key, value),
+        None => false,
     }
 }
 
-fn is_value_of(alloc: Global, key: &Key, value: &Value) -> Result<bool, Fail> {
-    let found = to_value(alloc, key)?;
-    Ok(same_value(&found, value))
+fn is_value_of(rt: &impl Abort, alloc: Global, key: &Key, value: &Value) -> bool {
+    let found = to_value(alloc, key).expect(rt, "memory");
+    same_value(&found, value)
 }
 
-fn has_key(alloc: Global, value: &Value) -> Result<bool, Fail> {
-    Ok(to_key(alloc, value)?.is_some())
+fn has_key(rt: &impl Abort, alloc: Global, value: &Value) -> bool {
+    to_key(alloc, value).expect(rt, "memory").is_some()
 }
 
 /// Values of each kind that converts.
@@ -169,72 +151,69 @@ const NO_KEYS: [Short; 7] = [
     Short::Set,
 ];
 
-fn short_has_key(rt: &impl Abort, alloc: Global, short: Short) -> Result<bool, Fail> {
-    let value = value(rt, alloc, short)?;
-    has_key(alloc, &value)
+fn short_has_key(rt: &impl Abort, alloc: Global, short: Short) -> bool {
+    let value = value(rt, alloc, short);
+    has_key(rt, alloc, &value)
 }
 
-fn array_has_key(rt: &impl Abort, alloc: Global, all: &[Short]) -> Result<bool, Fail> {
-    let array = array_of(rt, alloc, all)?;
-    has_key(alloc, &array)
+fn array_has_key(rt: &impl Abort, alloc: Global, all: &[Short]) -> bool {
+    let array = array_of(rt, alloc, all);
+    has_key(rt, alloc, &array)
 }
 
-fn array_is_its_key(rt: &impl Abort, alloc: Global, all: &[Short]) -> Result<bool, Fail> {
-    let array = array_of(rt, alloc, all)?;
-    is_its_key(alloc, &array)
+fn array_is_its_key(rt: &impl Abort, alloc: Global, all: &[Short]) -> bool {
+    let array = array_of(rt, alloc, all);
+    is_its_key(rt, alloc, &array)
 }
 
 /// The Array of these values, with a property.
-fn named_array(rt: &impl Abort, alloc: Global, all: &[Short]) -> Result<Value, Fail> {
-    let mut array = array_of(rt, alloc, all)?;
-    add(rt, alloc, &mut array, "p", Value::Null)?;
-    Ok(array)
+fn named_array(rt: &impl Abort, alloc: Global, all: &[Short]) -> Value {
+    let mut array = array_of(rt, alloc, all);
+    add(rt, alloc, &mut array, "p", Value::Null);
+    array
 }
 
 /// Whether the value has a key, and this key's value is another one.
-fn has_other_key(alloc: Global, value: &Value) -> Result<bool, Fail> {
-    Ok(!is_its_key(alloc, value)? && has_key(alloc, value)?)
+fn has_other_key(rt: &impl Abort, alloc: Global, value: &Value) -> bool {
+    !is_its_key(rt, alloc, value) && has_key(rt, alloc, value)
 }
 
-fn named_array_has_other_key(rt: &impl Abort, alloc: Global, all: &[Short]) -> Result<bool, Fail> {
-    let named = named_array(rt, alloc, all)?;
-    has_other_key(alloc, &named)
+fn named_array_has_other_key(rt: &impl Abort, alloc: Global, all: &[Short]) -> bool {
+    let named = named_array(rt, alloc, all);
+    has_other_key(rt, alloc, &named)
 }
 
-fn nested_is_its_key(alloc: Global, depth: u32) -> Result<bool, Fail> {
-    let nested = nested(alloc, depth)?;
-    is_its_key(alloc, &nested)
+fn nested_is_its_key(rt: &impl Abort, alloc: Global, depth: u32) -> bool {
+    let nested = nested(rt, alloc, depth);
+    is_its_key(rt, alloc, &nested)
 }
 
-fn nested_has_key(alloc: Global, depth: u32) -> Result<bool, Fail> {
-    let nested = nested(alloc, depth)?;
-    has_key(alloc, &nested)
+fn nested_has_key(rt: &impl Abort, alloc: Global, depth: u32) -> bool {
+    let nested = nested(rt, alloc, depth);
+    has_key(rt, alloc, &nested)
 }
 
 /// An Array of all kinds that convert, and the same with a property.
 #[test]
-fn values_convert_as_stated(rt: HostRuntime) -> Result<(), Fail> {
-    assert!(rt; array_is_its_key(&rt, rt.alloc(), &KINDS)?);
-    assert!(rt; named_array_has_other_key(&rt, rt.alloc(), &KINDS)?);
-    Ok(())
+fn values_convert_as_stated(rt: HostRuntime) {
+    assert!(rt; array_is_its_key(&rt, rt.alloc(), &KINDS));
+    assert!(rt; named_array_has_other_key(&rt, rt.alloc(), &KINDS));
 }
 
 /// Arrays nested 100 deep convert, and such nested 101 deep don't.
 #[test]
-fn nested_arrays_convert_as_stated(rt: HostRuntime) -> Result<(), Fail> {
-    assert!(rt; nested_is_its_key(rt.alloc(), 100)?);
-    assert!(rt; !nested_has_key(rt.alloc(), 101)?);
-    Ok(())
+fn nested_arrays_convert_as_stated(rt: HostRuntime) {
+    assert!(rt; nested_is_its_key(&rt, rt.alloc(), 100));
+    assert!(rt; !nested_has_key(&rt, rt.alloc(), 101));
 }
 
 /// The kinds of values that don't convert, and an Array with such a value.
 #[test]
-fn other_values_are_no_keys(rt: HostRuntime) -> Result<(), Fail> {
-    assert!(rt; !array_has_key(&rt, rt.alloc(), &[Short::Int(1), Short::Null])?);
+fn other_values_are_no_keys(rt: HostRuntime) {
+    assert!(rt; !array_has_key(&rt, rt.alloc(), &[Short::Int(1), Short::Null]));
     for short in &NO_KEYS {
-        assert!(rt; !short_has_key(&rt, rt.alloc(), *short)?);
+        assert!(rt; !short_has_key(&rt, rt.alloc(), *short));
     }
-    Ok(())
 }
 
 fn is_text(key: &Key, s: &str) -> bool {
@@ -270,35 +249,25 @@ fn told(answer: &Extracted) -> &'static str {
 }
 
 /// What the path "t" comes to on the value.
-fn told_at_t(alloc: Global, multi: bool, value: &Value) -> Result<&'static str, Fail> {
-    let path = path(alloc, "t")?;
-    Ok(told(&extract(alloc, &path, multi, value)?))
+fn told_at_t(rt: &impl Abort, alloc: Global, multi: bool, value: &Value) -> &'static str {
+    let path = path(rt, alloc, "t");
+    told(&extract(alloc, &path, multi, value).expect(rt, "memory"))
 }
 
 /// What the path comes to on `{"t": inner}`.
-fn extracted(
-    rt: &impl Abort,
-    alloc: Global,
-    multi: bool,
-    inner: Value,
-) -> Result<&'static str, Fail> {
-    let value = object(rt, alloc, "t", inner)?;
-    told_at_t(alloc, multi, &value)
+fn extracted(rt: &impl Abort, alloc: Global, multi: bool, inner: Value) -> &'static str {
+    let value = object(rt, alloc, "t", inner);
+    told_at_t(rt, alloc, multi, &value)
 }
 
 /// What the path comes to on `{"t": [..]}`.
-fn extracted_of_array(
-    rt: &impl Abort,
-    alloc: Global,
-    multi: bool,
-    all: &[Short],
-) -> Result<&'static str, Fail> {
-    extracted(rt, alloc, multi, array_of(rt, alloc, all)?)
+fn extracted_of_array(rt: &impl Abort, alloc: Global, multi: bool, all: &[Short]) -> &'static str {
+    extracted(rt, alloc, multi, array_of(rt, alloc, all))
 }
 
 /// A multi-entry path on `["a", 1, "a", null]` gives "a" and 1; without multi-entry an Array with null is invalid.
 #[test]
-fn keys_are_extracted_as_stated(rt: HostRuntime) -> Result<(), Fail> {
+fn keys_are_extracted_as_stated(rt: HostRuntime) {
     let repeated = [
         Short::Text("a"),
         Short::Int(1),
@@ -306,40 +275,38 @@ fn keys_are_extracted_as_stated(rt: HostRuntime) -> Result<(), Fail> {
         Short::Null,
     ];
     assert_eq!(rt;
-        extracted_of_array(&rt, rt.alloc(), true, &repeated)?,
+        extracted_of_array(&rt, rt.alloc(), true, &repeated),
         "a and 1"
     );
     let whole = [Short::Int(1), Short::Null];
     assert_eq!(rt;
-        extracted_of_array(&rt, rt.alloc(), false, &whole)?,
+        extracted_of_array(&rt, rt.alloc(), false, &whole),
         "invalid"
     );
-    Ok(())
 }
 
 /// What a multi-entry path comes to on a value that is no Array.
-fn extracted_of_one(rt: &impl Abort, alloc: Global, short: Short) -> Result<&'static str, Fail> {
-    extracted(rt, alloc, true, value(rt, alloc, short)?)
+fn extracted_of_one(rt: &impl Abort, alloc: Global, short: Short) -> &'static str {
+    extracted(rt, alloc, true, value(rt, alloc, short))
 }
 
 /// What a multi-entry path comes to on `{}`.
-fn extracted_of_nothing(alloc: Global) -> Result<&'static str, Fail> {
+fn extracted_of_nothing(rt: &impl Abort, alloc: Global) -> &'static str {
     let nothing = Value::Object(Props::new(alloc));
-    told_at_t(alloc, true, &nothing)
+    told_at_t(rt, alloc, true, &nothing)
 }
 
 /// A multi-entry path is invalid on null, and a failure on nothing.
 #[test]
-fn single_values_are_extracted_as_stated(rt: HostRuntime) -> Result<(), Fail> {
+fn single_values_are_extracted_as_stated(rt: HostRuntime) {
     for (short, expected) in [
         (Short::Null, "invalid"),
         (Short::Int(5), "5"),
         (Short::Undefined, "failure"),
     ] {
-        assert_eq!(rt; extracted_of_one(&rt, rt.alloc(), short)?, expected);
+        assert_eq!(rt; extracted_of_one(&rt, rt.alloc(), short), expected);
     }
-    assert_eq!(rt; extracted_of_nothing(rt.alloc())?, "failure");
-    Ok(())
+    assert_eq!(rt; extracted_of_nothing(&rt, rt.alloc()), "failure");
 }
 
 fn are_same(found: Option<&Value>, expected: Option<&Value>) -> bool {
@@ -352,46 +319,47 @@ fn are_same(found: Option<&Value>, expected: Option<&Value>) -> bool {
 
 /// Whether the path gives this value, or where there is none, fails.
 fn gives(
+    rt: &impl Abort,
     alloc: Global,
     path: &KeyPath,
     value: &Value,
     expected: Option<&Value>,
-) -> Result<bool, Fail> {
-    let found = evaluate(alloc, path, value)?;
-    Ok(are_same(found.as_ref(), expected))
+) -> bool {
+    let found = evaluate(alloc, path, value).expect(rt, "memory");
+    are_same(found.as_ref(), expected)
 }
 
 /// `{"c": 2, "length": 5}`
-fn inner_sample(rt: &impl Abort, alloc: Global) -> Result<Value, Fail> {
-    let mut inner = object(rt, alloc, "c", Value::Int(2))?;
-    add(rt, alloc, &mut inner, "length", Value::Int(5))?;
-    Ok(inner)
+fn inner_sample(rt: &impl Abort, alloc: Global) -> Value {
+    let mut inner = object(rt, alloc, "c", Value::Int(2));
+    add(rt, alloc, &mut inner, "length", Value::Int(5));
+    inner
 }
 
-fn add_numbers(rt: &impl Abort, alloc: Global, value: &mut Value) -> Result<(), Fail> {
-    let numbers = array_of(rt, alloc, &[Short::Int(7), Short::Int(8), Short::Int(9)])?;
+fn add_numbers(rt: &impl Abort, alloc: Global, value: &mut Value) {
+    let numbers = array_of(rt, alloc, &[Short::Int(7), Short::Int(8), Short::Int(9)]);
     add(rt, alloc, value, "a", numbers)
 }
 
-fn add_inner(rt: &impl Abort, alloc: Global, value: &mut Value) -> Result<(), Fail> {
-    add(rt, alloc, value, "b", inner_sample(rt, alloc)?)
+fn add_inner(rt: &impl Abort, alloc: Global, value: &mut Value) {
+    add(rt, alloc, value, "b", inner_sample(rt, alloc))
 }
 
-fn add_text(rt: &impl Abort, alloc: Global, value: &mut Value) -> Result<(), Fail> {
-    add(rt, alloc, value, "s", text_value(alloc, "\u{10000}x")?)
+fn add_text(rt: &impl Abort, alloc: Global, value: &mut Value) {
+    add(rt, alloc, value, "s", text_value(rt, alloc, "\u{10000}x"))
 }
 
-fn add_parts(rt: &impl Abort, alloc: Global, value: &mut Value) -> Result<(), Fail> {
-    add_numbers(rt, alloc, value)?;
-    add_inner(rt, alloc, value)?;
+fn add_parts(rt: &impl Abort, alloc: Global, value: &mut Value) {
+    add_numbers(rt, alloc, value);
+    add_inner(rt, alloc, value);
     add_text(rt, alloc, value)
 }
 
 /// `{"a": [7, 8, 9], "b": {"c": 2, "length": 5}, "s": "\u{10000}x", "u": Undefined}`
-fn sample(rt: &impl Abort, alloc: Global) -> Result<Value, Fail> {
-    let mut value = object(rt, alloc, "u", Value::Undefined)?;
-    add_parts(rt, alloc, &mut value)?;
-    Ok(value)
+fn sample(rt: &impl Abort, alloc: Global) -> Value {
+    let mut value = object(rt, alloc, "u", Value::Undefined);
+    add_parts(rt, alloc, &mut value);
+    value
 }
 
 /// Paths, and the numbers that they give on the sample.
@@ -410,37 +378,42 @@ static NUMBERS: [(&str, Option<i64>); 12] = [
     ("x.y", None),
 ];
 
-fn gives_number(alloc: Global, s: &str, value: &Value, number: Option<i64>) -> Result<bool, Fail> {
-    let path = path(alloc, s)?;
+fn gives_number(
+    rt: &impl Abort,
+    alloc: Global,
+    s: &str,
+    value: &Value,
+    number: Option<i64>,
+) -> bool {
+    let path = path(rt, alloc, s);
     let expected = number.map(Value::Int);
-    gives(alloc, &path, value, expected.as_ref())
+    gives(rt, alloc, &path, value, expected.as_ref())
 }
 
-fn check_numbers(rt: &impl Abort, alloc: Global, value: &Value) -> Result<(), Fail> {
+fn check_numbers(rt: &impl Abort, alloc: Global, value: &Value) {
     for (s, number) in &NUMBERS {
-        assert!(rt; gives_number(alloc, s, value, *number)?, "{s}");
+        assert!(rt; gives_number(rt, alloc, s, value, *number), "{s}");
     }
-    Ok(())
 }
 
 /// Paths on one sample: numbers that they give, or failure.
 #[test]
-fn paths_are_evaluated_as_stated(rt: HostRuntime) -> Result<(), Fail> {
-    let value = sample(&rt, rt.alloc())?;
+fn paths_are_evaluated_as_stated(rt: HostRuntime) {
+    let value = sample(&rt, rt.alloc());
     check_numbers(&rt, rt.alloc(), &value)
 }
 
 /// `{"b": {"c": 2}, "a": 1}`
-fn two_parts(rt: &impl Abort, alloc: Global) -> Result<Value, Fail> {
-    let inner = object(rt, alloc, "c", Value::Int(2))?;
-    let mut value = object(rt, alloc, "b", inner)?;
-    add(rt, alloc, &mut value, "a", Value::Int(1))?;
-    Ok(value)
+fn two_parts(rt: &impl Abort, alloc: Global) -> Value {
+    let inner = object(rt, alloc, "c", Value::Int(2));
+    let mut value = object(rt, alloc, "b", inner);
+    add(rt, alloc, &mut value, "a", Value::Int(1));
+    value
 }
 
-fn gives_itself(alloc: Global, s: &str, value: &Value) -> Result<bool, Fail> {
-    let path = path(alloc, s)?;
-    gives(alloc, &path, value, Some(value))
+fn gives_itself(rt: &impl Abort, alloc: Global, s: &str, value: &Value) -> bool {
+    let path = path(rt, alloc, s);
+    gives(rt, alloc, &path, value, Some(value))
 }
 
 /// Whether a list of paths gives this value, or where there is none, fails.
@@ -450,20 +423,19 @@ fn list_gives(
     list: &[&str],
     value: &Value,
     expected: Option<&Value>,
-) -> Result<bool, Fail> {
-    let list = paths(rt, alloc, list)?;
-    gives(alloc, &list, value, expected)
+) -> bool {
+    let list = paths(rt, alloc, list);
+    gives(rt, alloc, &list, value, expected)
 }
 
 /// The empty path gives the value; a list gives an Array of its parts' values, or fails.
 #[test]
-fn whole_values_and_lists_are_evaluated(rt: HostRuntime) -> Result<(), Fail> {
-    let both = array_of(&rt, rt.alloc(), &[Short::Int(1), Short::Int(2)])?;
-    let value = two_parts(&rt, rt.alloc())?;
-    assert!(rt; list_gives(&rt, rt.alloc(), &["a", "b.c"], &value, Some(&both))?);
-    assert!(rt; list_gives(&rt, rt.alloc(), &["a", "b.d"], &value, None)?);
-    assert!(rt; gives_itself(rt.alloc(), "", &value)?);
-    Ok(())
+fn whole_values_and_lists_are_evaluated(rt: HostRuntime) {
+    let both = array_of(&rt, rt.alloc(), &[Short::Int(1), Short::Int(2)]);
+    let value = two_parts(&rt, rt.alloc());
+    assert!(rt; list_gives(&rt, rt.alloc(), &["a", "b.c"], &value, Some(&both)));
+    assert!(rt; list_gives(&rt, rt.alloc(), &["a", "b.d"], &value, None));
+    assert!(rt; gives_itself(&rt, rt.alloc(), "", &value));
 }
 
 /// Paths, and whether a key could be injected by them into the sample.
@@ -483,9 +455,9 @@ static INJECTIONS: [(&str, bool); 12] = [
 ];
 
 /// Whether a key could be injected by the path, and whether there is room for it.
-fn injectable(alloc: Global, s: &str, value: &Value) -> Result<(bool, bool), Fail> {
-    let path = path(alloc, s)?;
-    Ok((could_inject(&path, value), has_room(&path, value)))
+fn injectable(rt: &impl Abort, alloc: Global, s: &str, value: &Value) -> (bool, bool) {
+    let path = path(rt, alloc, s);
+    (could_inject(&path, value), has_room(&path, value))
 }
 
 fn injectable_by_list(
@@ -493,126 +465,119 @@ fn injectable_by_list(
     alloc: Global,
     list: &[&str],
     value: &Value,
-) -> Result<(bool, bool), Fail> {
-    let list = paths(rt, alloc, list)?;
-    Ok((could_inject(&list, value), has_room(&list, value)))
+) -> (bool, bool) {
+    let list = paths(rt, alloc, list);
+    (could_inject(&list, value), has_room(&list, value))
 }
 
-fn check_injections(rt: &impl Abort, alloc: Global, value: &Value) -> Result<(), Fail> {
+fn check_injections(rt: &impl Abort, alloc: Global, value: &Value) {
     for (s, possible) in &INJECTIONS {
-        assert_eq!(rt; injectable(alloc, s, value)?, (*possible, true), "{s}");
+        assert_eq!(rt; injectable(rt, alloc, s, value), (*possible, true), "{s}");
     }
-    assert_eq!(rt;
-        injectable_by_list(rt, alloc, &["k"], value)?,
-        (false, true)
-    );
-    Ok(())
+    assert_eq!(rt; injectable_by_list(rt, alloc, &["k"], value), (false, true));
 }
 
 /// Paths by which a key could be injected into one sample, and such by which it could not.
 #[test]
-fn injection_is_possible_as_stated(rt: HostRuntime) -> Result<(), Fail> {
-    let value = sample(&rt, rt.alloc())?;
+fn injection_is_possible_as_stated(rt: HostRuntime) {
+    let value = sample(&rt, rt.alloc());
     check_injections(&rt, rt.alloc(), &value)
 }
 
 /// Values that are no Objects or Arrays take no key.
 #[test]
-fn other_values_take_no_key(rt: HostRuntime) -> Result<(), Fail> {
-    let path = path(rt.alloc(), "k")?;
+fn other_values_take_no_key(rt: HostRuntime) {
+    let path = path(&rt, rt.alloc(), "k");
     assert!(rt; !could_inject(&path, &Value::Set(Items::new(rt.alloc()))));
     assert!(rt; !could_inject(&path, &Value::Date(0)));
-    Ok(())
 }
 
 /// Injects the number where the conditions hold; whether they do.
 fn inject_number(
+    rt: &impl Abort,
     alloc: Global,
     path: &KeyPath,
     value: &mut Value,
     number: i64,
-) -> Result<bool, Fail> {
+) -> bool {
     if !could_inject(path, value) || !has_room(path, value) {
-        return Ok(false);
+        return false;
     }
-    if evaluate(alloc, path, value)?.is_some() {
-        return Ok(false);
+    if evaluate(alloc, path, value).expect(rt, "memory").is_some() {
+        return false;
     }
-    inject(alloc, path, value, &Key::Number(number))?;
-    Ok(true)
+    inject(alloc, path, value, &Key::Number(number)).expect(rt, "memory");
+    true
 }
 
 /// `{"a": {"b": inner}}`
-fn in_both(rt: &impl Abort, alloc: Global, inner: Value) -> Result<Value, Fail> {
-    object(rt, alloc, "a", object(rt, alloc, "b", inner)?)
+fn in_both(rt: &impl Abort, alloc: Global, inner: Value) -> Value {
+    object(rt, alloc, "a", object(rt, alloc, "b", inner))
 }
 
 /// Whether the key 1 goes into the value by `a.b`.
-fn takes_one(alloc: Global, value: &mut Value) -> Result<bool, Fail> {
-    let path = path(alloc, "a.b")?;
-    inject_number(alloc, &path, value, 1)
+fn takes_one(rt: &impl Abort, alloc: Global, value: &mut Value) -> bool {
+    let path = path(rt, alloc, "a.b");
+    inject_number(rt, alloc, &path, value, 1)
 }
 
 /// Whether the key 1 goes into the value by `a.b` and makes this of it.
-fn becomes(alloc: Global, value: &mut Value, wanted: &Value) -> Result<bool, Fail> {
-    Ok(takes_one(alloc, value)? && same_value(value, wanted))
+fn becomes(rt: &impl Abort, alloc: Global, value: &mut Value, wanted: &Value) -> bool {
+    takes_one(rt, alloc, value) && same_value(value, wanted)
 }
 
-fn becomes_in_both(rt: &impl Abort, alloc: Global, value: &mut Value) -> Result<bool, Fail> {
-    let one = in_both(rt, alloc, Value::Int(1))?;
-    becomes(alloc, value, &one)
+fn becomes_in_both(rt: &impl Abort, alloc: Global, value: &mut Value) -> bool {
+    let one = in_both(rt, alloc, Value::Int(1));
+    becomes(rt, alloc, value, &one)
 }
 
-fn nothing_becomes_in_both(rt: &impl Abort, alloc: Global) -> Result<bool, Fail> {
+fn nothing_becomes_in_both(rt: &impl Abort, alloc: Global) -> bool {
     let mut value = Value::Object(Props::new(alloc));
     becomes_in_both(rt, alloc, &mut value)
 }
 
 /// By `a.b` a key goes into `{}`.
 #[test]
-fn keys_are_injected_as_stated(rt: HostRuntime) -> Result<(), Fail> {
-    assert!(rt; nothing_becomes_in_both(&rt, rt.alloc())?);
-    Ok(())
+fn keys_are_injected_as_stated(rt: HostRuntime) {
+    assert!(rt; nothing_becomes_in_both(&rt, rt.alloc()));
 }
 
-fn null_takes_one(rt: &impl Abort, alloc: Global) -> Result<bool, Fail> {
-    let mut value = in_both(rt, alloc, Value::Null)?;
-    takes_one(alloc, &mut value)
+fn null_takes_one(rt: &impl Abort, alloc: Global) -> bool {
+    let mut value = in_both(rt, alloc, Value::Null);
+    takes_one(rt, alloc, &mut value)
 }
 
-fn number_takes_one(rt: &impl Abort, alloc: Global) -> Result<bool, Fail> {
-    let mut value = object(rt, alloc, "a", Value::Int(3))?;
-    takes_one(alloc, &mut value)
+fn number_takes_one(rt: &impl Abort, alloc: Global) -> bool {
+    let mut value = object(rt, alloc, "a", Value::Int(3));
+    takes_one(rt, alloc, &mut value)
 }
 
 /// A key goes by `a.b` neither into `{"a": 3}` nor where something stands.
 #[test]
-fn keys_are_not_injected_where_something_stands(rt: HostRuntime) -> Result<(), Fail> {
-    assert!(rt; !null_takes_one(&rt, rt.alloc())?);
-    assert!(rt; !number_takes_one(&rt, rt.alloc())?);
-    Ok(())
+fn keys_are_not_injected_where_something_stands(rt: HostRuntime) {
+    assert!(rt; !null_takes_one(&rt, rt.alloc()));
+    assert!(rt; !number_takes_one(&rt, rt.alloc()));
 }
 
 /// `{"a": {"b": inner}, "z": null}`
-fn in_both_with_other(rt: &impl Abort, alloc: Global, inner: Value) -> Result<Value, Fail> {
-    let mut value = in_both(rt, alloc, inner)?;
-    add(rt, alloc, &mut value, "z", Value::Null)?;
-    Ok(value)
+fn in_both_with_other(rt: &impl Abort, alloc: Global, inner: Value) -> Value {
+    let mut value = in_both(rt, alloc, inner);
+    add(rt, alloc, &mut value, "z", Value::Null);
+    value
 }
 
-fn becomes_with_other(rt: &impl Abort, alloc: Global, value: &mut Value) -> Result<bool, Fail> {
-    let one = in_both_with_other(rt, alloc, Value::Int(1))?;
-    becomes(alloc, value, &one)
+fn becomes_with_other(rt: &impl Abort, alloc: Global, value: &mut Value) -> bool {
+    let one = in_both_with_other(rt, alloc, Value::Int(1));
+    becomes(rt, alloc, value, &one)
 }
 
-fn undefined_becomes_one(rt: &impl Abort, alloc: Global) -> Result<bool, Fail> {
-    let mut held = in_both_with_other(rt, alloc, Value::Undefined)?;
+fn undefined_becomes_one(rt: &impl Abort, alloc: Global) -> bool {
+    let mut held = in_both_with_other(rt, alloc, Value::Undefined);
     becomes_with_other(rt, alloc, &mut held)
 }
 
 /// What was Undefined takes the key, and other properties stay.
 #[test]
-fn other_properties_stay(rt: HostRuntime) -> Result<(), Fail> {
-    assert!(rt; undefined_becomes_one(&rt, rt.alloc())?);
-    Ok(())
+fn other_properties_stay(rt: HostRuntime) {
+    assert!(rt; undefined_becomes_one(&rt, rt.alloc()));
 }

@@ -1,12 +1,11 @@
 // What queries of each form ask for.
 use clone_values::{Key, Value};
-use idb_base::NoMemory;
 use idb_calls::Query;
 use idb_keys::KeyRange;
 use query_ranges::*;
 use std::alloc::Global;
 use std::fmt::Write;
-use std::test::Fail;
+use std::process::Abort;
 
 /// The bounds that are whole numbers, a square bracket for a closed end and a round one for an open end.
 fn write_range(range: &KeyRange, said: &mut String) {
@@ -40,18 +39,16 @@ fn write_keys(keys: &QueryKeys, said: &mut String) {
     }
 }
 
-fn say_keys(alloc: Global, query: &Query, said: &mut String) -> Result<(), NoMemory> {
-    let keys = read_query(alloc, query)?;
+fn say_keys(rt: &impl Abort, alloc: Global, query: &Query, said: &mut String) {
+    let keys = read_query(alloc, query).expect(rt, "memory");
     write_keys(&keys, said);
-    Ok(())
 }
 
-fn say(alloc: Global, query: &Query, said: &mut String) -> Result<(), NoMemory> {
-    say_keys(alloc, query, said)?;
-    let must = is_query_refused(alloc, true, query)?;
-    let may = is_query_refused(alloc, false, query)?;
+fn say(rt: &impl Abort, alloc: Global, query: &Query, said: &mut String) {
+    say_keys(rt, alloc, query, said);
+    let must = is_query_refused(alloc, true, query).expect(rt, "memory");
+    let may = is_query_refused(alloc, false, query).expect(rt, "memory");
     let _ = write!(said, " {must} {may}\n");
-    Ok(())
 }
 
 /// A query in short.
@@ -98,9 +95,9 @@ fn query(short: Short) -> Query {
     }
 }
 
-fn say_short(alloc: Global, short: Short, said: &mut String) -> Result<(), NoMemory> {
+fn say_short(rt: &impl Abort, alloc: Global, short: Short, said: &mut String) {
     let query = query(short);
-    say(alloc, &query, said)
+    say(rt, alloc, &query, said)
 }
 
 const QUERIES: [Short; 13] = [
@@ -122,14 +119,13 @@ const QUERIES: [Short; 13] = [
 /// Undefined and Null say nothing; a value that is no key, a lower bound above the upper one, and two equal bounds of which one is
 /// open are no query.
 #[test]
-fn queries_ask_for_keys(rt: HostRuntime) -> Result<(), Fail> {
+fn queries_ask_for_keys(rt: HostRuntime) {
     let mut said = String::new(rt.alloc());
     for short in &QUERIES {
-        say_short(rt.alloc(), *short, &mut said)?;
+        say_short(&rt, rt.alloc(), *short, &mut said);
     }
     assert_eq!(rt;
         said.as_str(),
         "anything true false\nanything true false\nanything true false\n[3 3] false false\nno query true true\n(1 2] false false\n[1 .. false false\n.. 2) false false\n.. .. false false\nno query true true\nno query true true\n[1 1] false false\nno query true true\n"
     );
-    Ok(())
 }

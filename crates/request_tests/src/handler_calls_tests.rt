@@ -1,5 +1,4 @@
 // Transactions that never start: what their requests are told, and what the trace says.
-ghost use Rattle.std.specs.Prelude.{IfOk};
 ghost use Rattle.clone_values.specs.View.{tree_of};
 ghost use Rattle.clone_values.specs.WellFormed.{IsValue};
 ghost use Rattle.handler_calls.specs.Attending.{IsAttended};
@@ -14,7 +13,7 @@ use idb_schema::{Schema, SchemaCall, StoreId, StoreInfos};
 use request_lists::{Handler, HandlerEnd, TxFront};
 use std::alloc::Global;
 use std::fmt::Write;
-use std::test::Fail;
+use std::process::Abort;
 
 /// Notes each event, and returns.
 #[derive(Drop)]
@@ -60,22 +59,17 @@ impl Handler for Noting {
     }
 }
 
-fn text(alloc: Global, s: &'static str) -> Result<Text, Fail> {
-    if s.len() > GREATEST_LENGTH {
-        return Err(Fail::new("long"));
-    }
-    Ok(Text::copy_of(alloc, s)?)
+fn text(rt: &impl Abort, alloc: Global, s: &'static str) -> Text {
+    assert!(rt; s.len() <= GREATEST_LENGTH);
+    Text::copy_of(alloc, s).expect(rt, "memory")
 }
 
-fn number(n: i64) -> Result<Value, Fail>
-    ensures { IfOk result (λ v. IsValue (tree_of v)) }
+fn number(rt: &impl Abort, n: i64) -> Value
+    ensures { IsValue (tree_of result) }
 {
     let value = Value::Int(n);
-    if well_formed(&value) {
-        Ok(value)
-    } else {
-        Err(Fail::new("no value"))
-    }
+    assert!(rt; well_formed(&value));
+    value
 }
 
 fn change(front: &mut TxFront<Noting>, call: SchemaCall)
@@ -108,39 +102,41 @@ fn threw(front: &mut TxFront<Noting>)
     front.threw();
 }
 
-fn new_front(alloc: Global) -> Result<TxFront<Noting>, Fail>
-    ensures { IfOk result IsAttended }
+fn new_front(rt: &impl Abort, alloc: Global) -> TxFront<Noting>
+    ensures { IsAttended result }
 {
     attending_laws::<Noting>();
-    let schema = Schema::new(alloc, text(alloc, "d")?, 1, StoreInfos::new(alloc))?;
-    Ok(TxFront::new(alloc, Mode::VersionChange, schema, Texts::new(alloc)))
+    let schema = Schema::new(alloc, text(rt, alloc, "d"), 1, StoreInfos::new(alloc)).expect(
+        rt, "memory",
+    );
+    TxFront::new(alloc, Mode::VersionChange, schema, Texts::new(alloc))
 }
 
 /// An upgrade that made a store, placed a put and opened a cursor.
-fn begun(alloc: Global) -> Result<TxFront<Noting>, Fail>
-    ensures { IfOk result IsAttended }
+fn begun(rt: &impl Abort, alloc: Global) -> TxFront<Noting>
+    ensures { IsAttended result }
 {
-    let mut front = new_front(alloc)?;
+    let mut front = new_front(rt, alloc);
     let create = SchemaCall::CreateStore {
-        name: text(alloc, "s")?,
+        name: text(rt, alloc, "s"),
         path: None,
         auto: false,
     };
     change(&mut front, create);
-    let Ok(store) = front.store(&text(alloc, "s")?) else {
-        return Err(Fail::new("no store"));
+    let Ok(store) = front.store(&text(rt, alloc, "s")) else {
+        panic!(rt; "no store");
     };
-    put(&mut front, store)?;
+    put(rt, &mut front, store);
     open(&mut front, store);
-    Ok(front)
+    front
 }
 
-fn put(front: &mut TxFront<Noting>, store: StoreId) -> Result<(), Fail>
+fn put(rt: &impl Abort, front: &mut TxFront<Noting>, store: StoreId)
     requires { IsAttended front.old }
     ensures { IsAttended front.new }
 {
-    let value = number(7)?;
-    let key = number(1)?;
+    let value = number(rt, 7);
+    let key = number(rt, 1);
     place(
         front,
         Call::Put {
@@ -150,7 +146,6 @@ fn put(front: &mut TxFront<Noting>, store: StoreId) -> Result<(), Fail>
         },
         1,
     );
-    Ok(())
 }
 
 fn open(front: &mut TxFront<Noting>, store: StoreId)
@@ -212,28 +207,26 @@ fn say(trace: &TxTrace, notes: &Events, said: &mut String) {
     let _ = write!(said, "\n");
 }
 
-fn cancelled(alloc: Global, throws: bool, said: &mut String) -> Result<(), Fail> {
-    let mut front = begun(alloc)?;
+fn cancelled(rt: &impl Abort, alloc: Global, throws: bool, said: &mut String) {
+    let mut front = begun(rt, alloc);
     if throws {
         threw(&mut front);
     } else {
         abort(&mut front);
     }
     let mut notes = Events::new(alloc);
-    let trace = cancel(alloc, front, 5, Durability::Relaxed, &mut notes)?;
+    let trace = cancel(alloc, front, 5, Durability::Relaxed, &mut notes).expect(rt, "memory");
     say(&trace, &notes, said);
-    Ok(())
 }
 
 /// An upgrade whose body throws aborts with AbortError, and one whose body aborts it with null; each request is told AbortError.
 #[test]
-fn requests_of_a_front_that_never_starts_are_told(rt: HostRuntime) -> Result<(), Fail> {
+fn requests_of_a_front_that_never_starts_are_told(rt: HostRuntime) {
     let mut said = String::new(rt.alloc());
-    cancelled(rt.alloc(), true, &mut said)?;
-    cancelled(rt.alloc(), false, &mut said)?;
+    cancelled(&rt, rt.alloc(), true, &mut said);
+    cancelled(&rt, rt.alloc(), false, &mut said);
     assert_eq!(rt;
         said.as_str(),
         "1 AbortError, 2 AbortError, 0 changes, aborted AbortError; 1 AbortError, 2 AbortError, \n1 AbortError, 2 AbortError, 0 changes, aborted null; 1 AbortError, 2 AbortError, \n"
     );
-    Ok(())
 }

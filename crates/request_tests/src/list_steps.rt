@@ -1,5 +1,4 @@
 // The requests of the tests of `request_lists`, as plain data, and the calls that they make.
-ghost use Rattle.std.specs.Prelude.{IfOk};
 ghost use Rattle.std.specs.List.{AllByRecursion};
 ghost use Rattle.clone_values.specs.View.{tree_of};
 ghost use Rattle.clone_values.specs.WellFormed.{IsValue};
@@ -11,7 +10,7 @@ use idb_calls::{Call, Query, Target};
 use idb_keys::Direction;
 use idb_schema::StoreId;
 use std::alloc::Global;
-use std::test::Fail;
+use std::process::Abort;
 
 /// A value of a test.
 #[derive(Clone, Copy)]
@@ -48,238 +47,239 @@ pub(crate) enum Step {
     DeleteHere(u32),
 }
 
-pub(crate) fn text(alloc: Global, s: &'static str) -> Result<Text, Fail> {
-    if s.len() > GREATEST_LENGTH {
-        return Err(Fail::new("long"));
-    }
-    Ok(Text::copy_of(alloc, s)?)
+pub(crate) fn text(rt: &impl Abort, alloc: Global, s: &'static str) -> Text {
+    assert!(rt; s.len() <= GREATEST_LENGTH);
+    Text::copy_of(alloc, s).expect(rt, "memory")
 }
 
 /// The value, which is well formed.
-fn value(alloc: Global, val: Val) -> Result<Value, Fail>
-    ensures { IfOk result (λ v. IsValue (tree_of v)) }
+fn value(rt: &impl Abort, alloc: Global, val: Val) -> Value
+    ensures { IsValue (tree_of result) }
 {
     let value = match val {
         Val::Undefined => Value::Undefined,
         Val::Null => Value::Null,
         Val::Int(n) => Value::Int(n),
         Val::Function => Value::Function,
-        Val::One => array_of_one(alloc)?,
-        Val::K(n) => object(alloc, "k", n)?,
-        Val::A(n) => object(alloc, "a", n)?,
+        Val::One => array_of_one(rt, alloc),
+        Val::K(n) => object(rt, alloc, "k", n),
+        Val::A(n) => object(rt, alloc, "a", n),
     };
-    if well_formed(&value) {
-        Ok(value)
-    } else {
-        Err(Fail::new("no value"))
-    }
+    assert!(rt; well_formed(&value));
+    value
 }
 
-fn array_of_one(alloc: Global) -> Result<Value, Fail> {
+fn array_of_one(rt: &impl Abort, alloc: Global) -> Value {
     let mut items = Items::new(alloc);
-    items.push(Value::Int(1))?;
-    Ok(Value::Array(items, Props::new(alloc)))
+    items.push(Value::Int(1)).expect(rt, "memory");
+    Value::Array(items, Props::new(alloc))
 }
 
-fn object(alloc: Global, name: &'static str, n: i64) -> Result<Value, Fail> {
+fn object(rt: &impl Abort, alloc: Global, name: &'static str, n: i64) -> Value {
     let mut props = Props::new(alloc);
-    props.set(text(alloc, name)?, Value::Int(n))?;
-    Ok(Value::Object(props))
+    props
+        .set(text(rt, alloc, name), Value::Int(n))
+        .expect(rt, "memory");
+    Value::Object(props)
 }
 
-fn optional(alloc: Global, val: Option<Val>) -> Result<Option<Value>, Fail>
-    ensures { IfOk result (λ v. AllByRecursion (λ value. IsValue (tree_of value)) (value_given v)) }
+fn optional(rt: &impl Abort, alloc: Global, val: Option<Val>) -> Option<Value>
+    ensures { AllByRecursion (λ value. IsValue (tree_of value)) (value_given result) }
 {
     match val {
-        Some(val) => Ok(Some(value(alloc, val)?)),
-        None => Ok(None),
+        Some(val) => Some(value(rt, alloc, val)),
+        None => None,
     }
 }
 
-fn query(alloc: Global, asks: Option<Val>) -> Result<Query, Fail>
-    ensures { IfOk result (λ q. AllByRecursion (λ value. IsValue (tree_of value)) (values_of_query q)) }
+fn query(rt: &impl Abort, alloc: Global, asks: Option<Val>) -> Query
+    ensures { AllByRecursion (λ value. IsValue (tree_of value)) (values_of_query result) }
 {
     match asks {
-        Some(val) => Ok(Query::One(value(alloc, val)?)),
-        None => Ok(Query::Absent),
+        Some(val) => Query::One(value(rt, alloc, val)),
+        None => Query::Absent,
     }
 }
 
 // ---- one call each
-fn add(alloc: Global, store: StoreId, val: Val, key: Option<Val>) -> Result<Call, Fail>
-    ensures { IfOk result IsCall }
+fn add(rt: &impl Abort, alloc: Global, store: StoreId, val: Val, key: Option<Val>) -> Call
+    ensures { IsCall result }
 {
-    let value = value(alloc, val)?;
-    let key = optional(alloc, key)?;
-    Ok(Call::Add { store, value, key })
+    let value = value(rt, alloc, val);
+    let key = optional(rt, alloc, key);
+    Call::Add { store, value, key }
 }
 
-fn put(alloc: Global, store: StoreId, val: Val, key: Option<Val>) -> Result<Call, Fail>
-    ensures { IfOk result IsCall }
+fn put(rt: &impl Abort, alloc: Global, store: StoreId, val: Val, key: Option<Val>) -> Call
+    ensures { IsCall result }
 {
-    let value = value(alloc, val)?;
-    let key = optional(alloc, key)?;
-    Ok(Call::Put { store, value, key })
+    let value = value(rt, alloc, val);
+    let key = optional(rt, alloc, key);
+    Call::Put { store, value, key }
 }
 
-fn get(alloc: Global, target: Target, asks: Option<Val>) -> Result<Call, Fail>
-    ensures { IfOk result IsCall }
+fn get(rt: &impl Abort, alloc: Global, target: Target, asks: Option<Val>) -> Call
+    ensures { IsCall result }
 {
-    let query = query(alloc, asks)?;
-    Ok(Call::Get { target, query })
+    let query = query(rt, alloc, asks);
+    Call::Get { target, query }
 }
 
-fn get_key(alloc: Global, target: Target, asks: Option<Val>) -> Result<Call, Fail>
-    ensures { IfOk result IsCall }
+fn get_key(rt: &impl Abort, alloc: Global, target: Target, asks: Option<Val>) -> Call
+    ensures { IsCall result }
 {
-    let query = query(alloc, asks)?;
-    Ok(Call::GetKey { target, query })
+    let query = query(rt, alloc, asks);
+    Call::GetKey { target, query }
 }
 
-fn count(alloc: Global, target: Target, asks: Option<Val>) -> Result<Call, Fail>
-    ensures { IfOk result IsCall }
+fn count(rt: &impl Abort, alloc: Global, target: Target, asks: Option<Val>) -> Call
+    ensures { IsCall result }
 {
-    let query = query(alloc, asks)?;
-    Ok(Call::Count { target, query })
+    let query = query(rt, alloc, asks);
+    Call::Count { target, query }
 }
 
 fn get_all(
+    rt: &impl Abort,
     alloc: Global,
     target: Target,
     asks: Option<Val>,
     count: Option<i64>,
-) -> Result<Call, Fail>
-    ensures { IfOk result IsCall }
+) -> Call
+    ensures { IsCall result }
 {
-    let query = query(alloc, asks)?;
-    Ok(Call::GetAll {
+    let query = query(rt, alloc, asks);
+    Call::GetAll {
         target,
         query,
         count,
-    })
+    }
 }
 
 fn get_all_keys(
+    rt: &impl Abort,
     alloc: Global,
     target: Target,
     asks: Option<Val>,
     count: Option<i64>,
-) -> Result<Call, Fail>
-    ensures { IfOk result IsCall }
+) -> Call
+    ensures { IsCall result }
 {
-    let query = query(alloc, asks)?;
-    Ok(Call::GetAllKeys {
+    let query = query(rt, alloc, asks);
+    Call::GetAllKeys {
         target,
         query,
         count,
-    })
+    }
 }
 
-fn delete(alloc: Global, store: StoreId, asks: Option<Val>) -> Result<Call, Fail>
-    ensures { IfOk result IsCall }
+fn delete(rt: &impl Abort, alloc: Global, store: StoreId, asks: Option<Val>) -> Call
+    ensures { IsCall result }
 {
-    let query = query(alloc, asks)?;
-    Ok(Call::Delete { store, query })
+    let query = query(rt, alloc, asks);
+    Call::Delete { store, query }
 }
 
 fn open(
+    rt: &impl Abort,
     alloc: Global,
     target: Target,
     asks: Option<Val>,
     direction: Direction,
-) -> Result<Call, Fail>
-    ensures { IfOk result IsCall }
+) -> Call
+    ensures { IsCall result }
 {
-    let query = query(alloc, asks)?;
-    Ok(Call::OpenCursor {
+    let query = query(rt, alloc, asks);
+    Call::OpenCursor {
         target,
         query,
         direction,
-    })
+    }
 }
 
 fn open_keys(
+    rt: &impl Abort,
     alloc: Global,
     target: Target,
     asks: Option<Val>,
     direction: Direction,
-) -> Result<Call, Fail>
-    ensures { IfOk result IsCall }
+) -> Call
+    ensures { IsCall result }
 {
-    let query = query(alloc, asks)?;
-    Ok(Call::OpenKeyCursor {
+    let query = query(rt, alloc, asks);
+    Call::OpenKeyCursor {
         target,
         query,
         direction,
-    })
+    }
 }
 
-fn go_on(alloc: Global, cursor: u32, key: Option<Val>) -> Result<Call, Fail>
-    ensures { IfOk result IsCall }
+fn go_on(rt: &impl Abort, alloc: Global, cursor: u32, key: Option<Val>) -> Call
+    ensures { IsCall result }
 {
-    let key = optional(alloc, key)?;
-    Ok(Call::Continue { cursor, key })
+    let key = optional(rt, alloc, key);
+    Call::Continue { cursor, key }
 }
 
-fn go_on_to(alloc: Global, cursor: u32, key: Val, primary: Val) -> Result<Call, Fail>
-    ensures { IfOk result IsCall }
+fn go_on_to(rt: &impl Abort, alloc: Global, cursor: u32, key: Val, primary: Val) -> Call
+    ensures { IsCall result }
 {
-    let key = value(alloc, key)?;
-    let primary = value(alloc, primary)?;
-    Ok(Call::ContinuePrimaryKey {
+    let key = value(rt, alloc, key);
+    let primary = value(rt, alloc, primary);
+    Call::ContinuePrimaryKey {
         cursor,
         key,
         primary,
-    })
+    }
 }
 
-fn update(alloc: Global, cursor: u32, val: Val) -> Result<Call, Fail>
-    ensures { IfOk result IsCall }
+fn update(rt: &impl Abort, alloc: Global, cursor: u32, val: Val) -> Call
+    ensures { IsCall result }
 {
-    let value = value(alloc, val)?;
-    Ok(Call::Update { cursor, value })
+    let value = value(rt, alloc, val);
+    Call::Update { cursor, value }
 }
 
 /// A request that writes, or another one.
-pub(crate) fn call(alloc: Global, ids: Target, step: Step) -> Result<Call, Fail>
-    ensures { IfOk result IsCall }
+pub(crate) fn call(rt: &impl Abort, alloc: Global, ids: Target, step: Step) -> Call
+    ensures { IsCall result }
 {
     let store = ids.store;
     match step {
-        Step::Add(val, key) => add(alloc, store, val, key),
-        Step::Put(val, key) => put(alloc, store, val, key),
-        Step::Delete(asks) => delete(alloc, store, asks),
-        Step::Clear => Ok(Call::Clear { store }),
-        _ => reading_call(alloc, ids, step),
+        Step::Add(val, key) => add(rt, alloc, store, val, key),
+        Step::Put(val, key) => put(rt, alloc, store, val, key),
+        Step::Delete(asks) => delete(rt, alloc, store, asks),
+        Step::Clear => Call::Clear { store },
+        _ => reading_call(rt, alloc, ids, step),
     }
 }
 
 /// A request that reads, or a call of a cursor.
-fn reading_call(alloc: Global, target: Target, step: Step) -> Result<Call, Fail>
-    ensures { IfOk result IsCall }
+fn reading_call(rt: &impl Abort, alloc: Global, target: Target, step: Step) -> Call
+    ensures { IsCall result }
 {
     match step {
-        Step::Get(asks) => get(alloc, target, asks),
-        Step::GetKey(asks) => get_key(alloc, target, asks),
-        Step::Count(asks) => count(alloc, target, asks),
-        Step::All(asks, count) => get_all(alloc, target, asks, count),
-        Step::AllKeys(asks, count) => get_all_keys(alloc, target, asks, count),
-        Step::Open(asks, direction) => open(alloc, target, asks, direction),
-        Step::OpenKeys(asks, direction) => open_keys(alloc, target, asks, direction),
-        _ => cursor_call(alloc, step),
+        Step::Get(asks) => get(rt, alloc, target, asks),
+        Step::GetKey(asks) => get_key(rt, alloc, target, asks),
+        Step::Count(asks) => count(rt, alloc, target, asks),
+        Step::All(asks, count) => get_all(rt, alloc, target, asks, count),
+        Step::AllKeys(asks, count) => get_all_keys(rt, alloc, target, asks, count),
+        Step::Open(asks, direction) => open(rt, alloc, target, asks, direction),
+        Step::OpenKeys(asks, direction) => open_keys(rt, alloc, target, asks, direction),
+        _ => cursor_call(rt, alloc, step),
     }
 }
 
 /// A call of a cursor.
-fn cursor_call(alloc: Global, step: Step) -> Result<Call, Fail>
-    ensures { IfOk result IsCall }
+fn cursor_call(rt: &impl Abort, alloc: Global, step: Step) -> Call
+    ensures { IsCall result }
 {
     match step {
-        Step::Continue(cursor, key) => go_on(alloc, cursor, key),
-        Step::ContinuePrimary(cursor, key, primary) => go_on_to(alloc, cursor, key, primary),
-        Step::Advance(cursor, count) => Ok(Call::Advance { cursor, count }),
-        Step::Update(cursor, val) => update(alloc, cursor, val),
-        Step::DeleteHere(cursor) => Ok(Call::DeleteHere { cursor }),
-        _ => Err(Fail::new("no call of a cursor")),
+        Step::Continue(cursor, key) => go_on(rt, alloc, cursor, key),
+        Step::ContinuePrimary(cursor, key, primary) => go_on_to(rt, alloc, cursor, key, primary),
+        Step::Advance(cursor, count) => Call::Advance { cursor, count },
+        Step::Update(cursor, val) => update(rt, alloc, cursor, val),
+        Step::DeleteHere(cursor) => Call::DeleteHere { cursor },
+        _ => panic!(rt; "no call of a cursor"),
     }
 }

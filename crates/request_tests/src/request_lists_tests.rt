@@ -2,7 +2,6 @@
 // interface" and its neighbours).
 use crate::list_steps::{Step, Val, call, text};
 use clone_values::{Key, PathSpec, Texts};
-use idb_base::NoMemory;
 use idb_calls::Target;
 use idb_cursors::RowsShown;
 use idb_keys::{Direction, ErrorName, Mode};
@@ -12,7 +11,7 @@ use request_lists::*;
 use sorted_table::{FlatTable, OrderedTable, find_place};
 use std::alloc::Global;
 use std::fmt::Write;
-use std::test::Fail;
+use std::process::Abort;
 
 // ---- what is written of an answer
 fn say(answer: Result<(), ErrorName>, said: &mut String) {
@@ -39,20 +38,20 @@ fn say_refusal(refusal: Refusal, said: &mut String) {
 
 /// Places the request, and writes its number or why it is refused.
 fn place(
+    rt: &impl Abort,
     alloc: Global,
     front: &mut TxFront<u32>,
     ids: Target,
     step: Step,
     said: &mut String,
-) -> Result<(), Fail> {
-    let call = call(alloc, ids, step)?;
+) {
+    let call = call(rt, alloc, ids, step);
     match front.place(call, 7) {
         Ok(number) => {
             let _ = write!(said, "{number}\n");
         }
         Err(refused) => say_refusal(refused.refusal, said),
     }
-    Ok(())
 }
 
 fn change(front: &mut TxFront<u32>, call: SchemaCall, said: &mut String) {
@@ -65,88 +64,88 @@ fn change(front: &mut TxFront<u32>, call: SchemaCall, said: &mut String) {
 }
 
 /// The front of an upgrade of a new database.
-fn new_upgrade(alloc: Global) -> Result<TxFront<u32>, Fail> {
-    let name = text(alloc, "d")?;
-    let schema = Schema::new(alloc, name, 1, StoreInfos::new(alloc))?;
-    Ok(TxFront::new(alloc, Mode::VersionChange, schema, Texts::new(alloc)))
+fn new_upgrade(rt: &impl Abort, alloc: Global) -> TxFront<u32> {
+    let name = text(rt, alloc, "d");
+    let schema = Schema::new(alloc, name, 1, StoreInfos::new(alloc)).expect(rt, "memory");
+    TxFront::new(alloc, Mode::VersionChange, schema, Texts::new(alloc))
 }
 
-fn path(alloc: Global, key_path: &'static str) -> Result<Option<PathSpec>, Fail> {
+fn path(rt: &impl Abort, alloc: Global, key_path: &'static str) -> Option<PathSpec> {
     if key_path.is_empty() {
-        Ok(None)
+        None
     } else {
-        Ok(Some(PathSpec::One(text(alloc, key_path)?)))
+        Some(PathSpec::One(text(rt, alloc, key_path)))
     }
 }
 
 fn create_store(
+    rt: &impl Abort,
     alloc: Global,
     front: &mut TxFront<u32>,
     key_path: &'static str,
     auto: bool,
     said: &mut String,
-) -> Result<(), Fail> {
-    let path = path(alloc, key_path)?;
-    let name = text(alloc, "s")?;
+) {
+    let path = path(rt, alloc, key_path);
+    let name = text(rt, alloc, "s");
     change(front, SchemaCall::CreateStore { name, path, auto }, said);
-    Ok(())
 }
 
-fn index_call(alloc: Global, store: StoreId) -> Result<SchemaCall, Fail> {
-    let name = text(alloc, "i")?;
-    let path = PathSpec::One(text(alloc, "e")?);
-    Ok(SchemaCall::CreateIndex {
+fn index_call(rt: &impl Abort, alloc: Global, store: StoreId) -> SchemaCall {
+    let name = text(rt, alloc, "i");
+    let path = PathSpec::One(text(rt, alloc, "e"));
+    SchemaCall::CreateIndex {
         store,
         name,
         path,
         unique: false,
         multi: false,
-    })
+    }
 }
 
-fn create_index(alloc: Global, front: &mut TxFront<u32>, said: &mut String) -> Result<(), Fail> {
-    if let Ok(store) = front.store(&text(alloc, "s")?) {
-        change(front, index_call(alloc, store)?, said);
+fn create_index(rt: &impl Abort, alloc: Global, front: &mut TxFront<u32>, said: &mut String) {
+    if let Ok(store) = front.store(&text(rt, alloc, "s")) {
+        change(front, index_call(rt, alloc, store), said);
     }
-    Ok(())
 }
 
 /// The schema with one store s, of this key path and with a generator where auto says so, and its index i.
-fn schema(alloc: Global, key_path: &'static str, auto: bool) -> Result<Schema, Fail> {
-    let mut front = new_upgrade(alloc)?;
+fn schema(rt: &impl Abort, alloc: Global, key_path: &'static str, auto: bool) -> Schema {
+    let mut front = new_upgrade(rt, alloc);
     let mut said = String::new(alloc);
-    create_store(alloc, &mut front, key_path, auto, &mut said)?;
-    create_index(alloc, &mut front, &mut said)?;
-    Ok(front.left_schema().copy(alloc)?)
+    create_store(rt, alloc, &mut front, key_path, auto, &mut said);
+    create_index(rt, alloc, &mut front, &mut said);
+    front.left_schema().copy(alloc).expect(rt, "memory")
 }
 
-fn scope(alloc: Global) -> Result<Texts, Fail> {
+fn scope(rt: &impl Abort, alloc: Global) -> Texts {
     let mut names = Texts::new(alloc);
-    names.push(text(alloc, "s")?)?;
-    Ok(names)
+    names.push(text(rt, alloc, "s")).expect(rt, "memory");
+    names
 }
 
 fn new_front(
+    rt: &impl Abort,
     alloc: Global,
     mode: Mode,
     key_path: &'static str,
     auto: bool,
-) -> Result<TxFront<u32>, Fail> {
-    let schema = schema(alloc, key_path, auto)?;
-    let names = scope(alloc)?;
-    Ok(TxFront::new(alloc, mode, schema, names))
+) -> TxFront<u32> {
+    let schema = schema(rt, alloc, key_path, auto);
+    let names = scope(rt, alloc);
+    TxFront::new(alloc, mode, schema, names)
 }
 
 /// What the steps go to: the store s.
-fn target(alloc: Global, front: &TxFront<u32>) -> Result<Target, Fail> {
-    match front.store(&text(alloc, "s")?) {
-        Ok(store) => Ok(Target { store, index: None }),
-        Err(_) => Err(Fail::new("no store")),
+fn target(rt: &impl Abort, alloc: Global, front: &TxFront<u32>) -> Target {
+    match front.store(&text(rt, alloc, "s")) {
+        Ok(store) => Target { store, index: None },
+        Err(_) => panic!(rt; "no store"),
     }
 }
 
 /// The rows (1, 1), (1, 2), (2, 3).
-fn three(alloc: Global) -> Result<FlatTable<Row, ()>, NoMemory> {
+fn three(rt: &impl Abort, alloc: Global) -> FlatTable<Row, ()> {
     let mut table = FlatTable::new(alloc);
     for (key, primary) in [(1, 1), (1, 2), (2, 3)] {
         let row = Row {
@@ -154,23 +153,21 @@ fn three(alloc: Global) -> Result<FlatTable<Row, ()>, NoMemory> {
             primary: Key::Number(primary),
         };
         if let Err(place) = find_place(&table, &row) {
-            table.reserve(1)?;
+            table.reserve(1).expect(rt, "memory");
             table.insert_at(place, row, ());
         }
     }
-    Ok(table)
+    table
 }
 
 /// Runs one turn of the cursor over these rows, and writes the place of what it got.
-fn turn(
-    alloc: Global,
-    front: &mut TxFront<u32>,
-    number: u32,
-    said: &mut String,
-) -> Result<(), Fail> {
-    let table = three(alloc)?;
+fn turn(rt: &impl Abort, alloc: Global, front: &mut TxFront<u32>, number: u32, said: &mut String) {
+    let table = three(rt, alloc);
     let rows = RowsShown { table: &table };
-    match front.turn_cursor(number, &rows, None, None, 1)? {
+    match front
+        .turn_cursor(number, &rows, None, None, 1)
+        .expect(rt, "memory")
+    {
         Some(place) => {
             let _ = write!(said, "at {place}\n");
         }
@@ -178,7 +175,6 @@ fn turn(
             let _ = write!(said, "none\n");
         }
     }
-    Ok(())
 }
 
 /// Takes the first entry, and writes it; the handler of a cursor is lent and comes back.
@@ -229,71 +225,67 @@ enum Act {
 }
 
 fn say_store(
+    rt: &impl Abort,
     alloc: Global,
     front: &TxFront<u32>,
     name: &'static str,
     said: &mut String,
-) -> Result<(), Fail> {
-    let answer = front.store(&text(alloc, name)?).map(|_| ());
+) {
+    let answer = front.store(&text(rt, alloc, name)).map(|_| ());
     say(answer, said);
-    Ok(())
 }
 
 fn say_index(
+    rt: &impl Abort,
     alloc: Global,
     front: &TxFront<u32>,
     store: StoreId,
     name: &'static str,
     said: &mut String,
-) -> Result<(), Fail> {
-    let answer = front.index(store, &text(alloc, name)?).map(|_| ());
+) {
+    let answer = front.index(store, &text(rt, alloc, name)).map(|_| ());
     say(answer, said);
-    Ok(())
 }
 
-fn over_index(alloc: Global, front: &TxFront<u32>, ids: &mut Target) -> Result<(), Fail> {
-    ids.index = front.index(ids.store, &text(alloc, "i")?).ok();
-    Ok(())
+fn over_index(rt: &impl Abort, alloc: Global, front: &TxFront<u32>, ids: &mut Target) {
+    ids.index = front.index(ids.store, &text(rt, alloc, "i")).ok();
 }
 
-fn drop_store(alloc: Global, front: &mut TxFront<u32>, said: &mut String) -> Result<(), Fail> {
-    let name = text(alloc, "s")?;
+fn drop_store(rt: &impl Abort, alloc: Global, front: &mut TxFront<u32>, said: &mut String) {
+    let name = text(rt, alloc, "s");
     change(front, SchemaCall::DropStore { name }, said);
-    Ok(())
 }
 
 fn drop_index(
+    rt: &impl Abort,
     alloc: Global,
     front: &mut TxFront<u32>,
     store: StoreId,
     name: &'static str,
     said: &mut String,
-) -> Result<(), Fail> {
-    let name = text(alloc, name)?;
+) {
+    let name = text(rt, alloc, name);
     change(front, SchemaCall::DropIndex { store, name }, said);
-    Ok(())
 }
 
 /// An act that wants memory, or another one.
 fn perform(
+    rt: &impl Abort,
     alloc: Global,
     front: &mut TxFront<u32>,
     ids: &mut Target,
     act: Act,
     said: &mut String,
-) -> Result<(), Fail> {
+) {
     match act {
-        Act::Place(step) => place(alloc, front, *ids, step, said),
-        Act::Store(name) => say_store(alloc, front, name, said),
-        Act::Index(name) => say_index(alloc, front, ids.store, name, said),
-        Act::OverIndex => over_index(alloc, front, ids),
-        Act::DropStore => drop_store(alloc, front, said),
-        Act::DropIndex(name) => drop_index(alloc, front, ids.store, name, said),
-        Act::Turn(number) => turn(alloc, front, number, said),
-        _ => {
-            follow(front, act, said);
-            Ok(())
-        }
+        Act::Place(step) => place(rt, alloc, front, *ids, step, said),
+        Act::Store(name) => say_store(rt, alloc, front, name, said),
+        Act::Index(name) => say_index(rt, alloc, front, ids.store, name, said),
+        Act::OverIndex => over_index(rt, alloc, front, ids),
+        Act::DropStore => drop_store(rt, alloc, front, said),
+        Act::DropIndex(name) => drop_index(rt, alloc, front, ids.store, name, said),
+        Act::Turn(number) => turn(rt, alloc, front, number, said),
+        _ => follow(front, act, said),
     }
 }
 
@@ -317,23 +309,22 @@ fn follow(front: &mut TxFront<u32>, act: Act, said: &mut String) {
 type Case = (Mode, &'static str, bool, &'static [Act]);
 
 /// What the front of the case answers.
-fn run(alloc: Global, case: Case, said: &mut String) -> Result<(), Fail> {
+fn run(rt: &impl Abort, alloc: Global, case: Case, said: &mut String) {
     let (mode, key_path, auto, acts) = case;
-    let mut front = new_front(alloc, mode, key_path, auto)?;
-    let mut ids = target(alloc, &front)?;
+    let mut front = new_front(rt, alloc, mode, key_path, auto);
+    let mut ids = target(rt, alloc, &front);
     for act in acts {
-        perform(alloc, &mut front, &mut ids, *act, said)?;
+        perform(rt, alloc, &mut front, &mut ids, *act, said);
     }
-    Ok(())
 }
 
 /// What the fronts of these cases answer, one behind the other.
-fn answers(alloc: Global, cases: &[Case]) -> Result<String, Fail> {
+fn answers(rt: &impl Abort, alloc: Global, cases: &[Case]) -> String {
     let mut said = String::new(alloc);
     for case in cases {
-        run(alloc, *case, &mut said)?;
+        run(rt, alloc, *case, &mut said);
     }
-    Ok(said)
+    said
 }
 
 const IN_READ_WRITE: [Act; 11] = [
@@ -372,13 +363,12 @@ const CAUSES: [Case; 2] = [
 
 /// Each request once; in a read-only front writing is refused before key and value are looked at, reading by its query and its count.
 #[test]
-fn the_first_cause_wins(rt: HostRuntime) -> Result<(), Fail> {
-    let said = answers(rt.alloc(), &CAUSES)?;
+fn the_first_cause_wins(rt: HostRuntime) {
+    let said = answers(&rt, rt.alloc(), &CAUSES);
     assert_eq!(rt;
         said.as_str(),
         "1\n2\n3\n4\n5\n6\n7\n8\n9\n10\n11\nReadOnlyError\nReadOnlyError\nReadOnlyError\nReadOnlyError\nDataError\nDataError\nDataError\nDataError\nTypeError\nTypeError\nDataError\nInvalidStateError\n"
     );
-    Ok(())
 }
 
 const GIVEN_KEYS: [Act; 3] = [
@@ -415,13 +405,12 @@ const KEYS: [Case; 5] = [
 
 /// Keys given and keys in the value, and what a generator can inject (Indexed Database API 3.0, "add or put").
 #[test]
-fn keys_are_asked_for_before_values(rt: HostRuntime) -> Result<(), Fail> {
-    let said = answers(rt.alloc(), &KEYS)?;
+fn keys_are_asked_for_before_values(rt: HostRuntime) {
+    let said = answers(&rt, rt.alloc(), &KEYS);
     assert_eq!(rt;
         said.as_str(),
         "DataError\nDataError\nDataCloneError\n1\nDataCloneError\nDataError\nDataError\n1\nDataError\n1\nDataError\n"
     );
-    Ok(())
 }
 
 const AFTER_COMMIT: [Act; 3] = [
@@ -456,13 +445,12 @@ const PHASES: [Case; 3] = [
 
 /// After `commit` nothing is placed and nothing aborts; after `abort` no store is found; a script that threw aborts an upgrade alone.
 #[test]
-fn phases_follow_the_calls(rt: HostRuntime) -> Result<(), Fail> {
-    let said = answers(rt.alloc(), &PHASES)?;
+fn phases_follow_the_calls(rt: HostRuntime) {
+    let said = answers(&rt, rt.alloc(), &PHASES);
     assert_eq!(rt;
         said.as_str(),
         "ok\nTransactionInactiveError\nInvalidStateError\nTransactionInactiveError\nInvalidStateError\nok\nNotFoundError\nNotFoundError\nok\nInvalidStateError\nInvalidStateError\nTransactionInactiveError\nInvalidStateError\n"
     );
-    Ok(())
 }
 
 const IN_AN_UPGRADE: [Act; 9] = [
@@ -486,13 +474,12 @@ const UPGRADES: [Case; 2] = [
 
 /// The calls of an upgrade change the schema at once, and only an upgrade makes them.
 #[test]
-fn upgrades_change_the_schema_at_once(rt: HostRuntime) -> Result<(), Fail> {
-    let said = answers(rt.alloc(), &UPGRADES)?;
+fn upgrades_change_the_schema_at_once(rt: HostRuntime) {
+    let said = answers(&rt, rt.alloc(), &UPGRADES);
     assert_eq!(rt;
         said.as_str(),
         "NotFoundError\nok\nok\nInvalidStateError\nNotFoundError\nInvalidStateError\nInvalidStateError\nTransactionInactiveError\nInvalidStateError\n"
     );
-    Ok(())
 }
 
 const OF_CURSORS: [Act; 26] = [
@@ -529,13 +516,12 @@ const CURSORS: [Case; 1] = [(Mode::ReadWrite, "", false, &OF_CURSORS)];
 /// The causes of the calls of a cursor over an index, in the standard's order; a continuation has its own number (Indexed Database API
 /// 3.0, "The IDBCursor interface").
 #[test]
-fn cursors_go_on_from_what_they_got(rt: HostRuntime) -> Result<(), Fail> {
-    let said = answers(rt.alloc(), &CURSORS)?;
+fn cursors_go_on_from_what_they_got(rt: HostRuntime) {
+    let said = answers(&rt, rt.alloc(), &CURSORS);
     assert_eq!(rt;
         said.as_str(),
         "1\nInvalidStateError\n2\nat 0\nat 0\nDataError\nDataError\nDataError\nDataError\nInvalidAccessError\nTypeError\nDataCloneError\nInvalidStateError\n3\n4\n1\nInvalidStateError\nInvalidStateError\nInvalidStateError\n2\nat 1\nat 2\nnone\n1\nInvalidStateError\n"
     );
-    Ok(())
 }
 
 const OF_ENTRIES: [Act; 21] = [
@@ -566,11 +552,10 @@ const ENTRIES: [Case; 1] = [(Mode::ReadWrite, "k", false, &OF_ENTRIES)];
 
 /// The entries come off the list as they were placed, and a cursor's handler is lent and comes back.
 #[test]
-fn entries_leave_in_order(rt: HostRuntime) -> Result<(), Fail> {
-    let said = answers(rt.alloc(), &ENTRIES)?;
+fn entries_leave_in_order(rt: HostRuntime) {
+    let said = answers(&rt, rt.alloc(), &ENTRIES);
     assert_eq!(rt;
         said.as_str(),
         "1\n2\n3\nat 0\nDataError\nDataError\n4\nInvalidAccessError\n2\nrequest 1 7\nturn 2 true false\nrequest 3 7\nrequest 4 7\nturn 2 true false\nno entry\nTransactionInactiveError\n5\nInvalidStateError\n"
     );
-    Ok(())
 }

@@ -12,7 +12,7 @@ use request_lists::TxFront;
 use request_reads::*;
 use std::alloc::Global;
 use std::fmt::Write;
-use std::test::Fail;
+use std::process::Abort;
 
 /// A request of the store, or a turn of its cursor.
 #[derive(Clone, Copy)]
@@ -27,73 +27,72 @@ enum Step {
     Advance,
 }
 
-fn empty_store<T: Tables>(alloc: Global) -> Result<StoreVersion<T>, Fail> {
+fn empty_store<T: Tables>(rt: &impl Abort, alloc: Global) -> StoreVersion<T> {
     let info = StoreInfo {
-        name: Text::copy_of(alloc, "s")?,
+        name: Text::copy_of(alloc, "s").expect(rt, "memory"),
         path: None,
         auto: false,
         indexes: IndexInfos::new(alloc),
     };
-    Ok(StoreVersion::new(alloc, info))
+    StoreVersion::new(alloc, info)
 }
 
 /// A store of the records 1: 30, 2: 20 and 5: 10.
-fn new_store<T: Tables>(alloc: Global) -> Result<StoreVersion<T>, Fail> {
-    let mut store: StoreVersion<T> = empty_store(alloc)?;
+fn new_store<T: Tables>(rt: &impl Abort, alloc: Global) -> StoreVersion<T> {
+    let mut store: StoreVersion<T> = empty_store(rt, alloc);
     for (key, n) in [(1i64, 30i64), (2, 20), (5, 10)] {
-        put(&mut store, key, n)?;
+        put(rt, &mut store, key, n);
     }
-    Ok(store)
+    store
 }
 
-fn put<T: Tables>(store: &mut StoreVersion<T>, key: i64, n: i64) -> Result<(), Fail> {
+fn put<T: Tables>(rt: &impl Abort, store: &mut StoreVersion<T>, key: i64, n: i64) {
     let value = Value::Int(n);
-    if !well_formed(&value) || !is_cloneable(&value) || !is_int(key) {
-        return Err(Fail::new("no record"));
-    }
-    let _ = store.store_record(value, Some(Key::Number(key)), false)?;
-    Ok(())
+    assert!(rt; well_formed(&value) && is_cloneable(&value) && is_int(key));
+    let _ = store
+        .store_record(value, Some(Key::Number(key)), false)
+        .expect(rt, "a stored record");
 }
 
 /// An upgrade of a new database.
-fn new_upgrade(alloc: Global) -> Result<TxFront<u32>, Fail> {
-    let schema = Schema::new(alloc, Text::copy_of(alloc, "d")?, 1, StoreInfos::new(alloc))?;
-    Ok(TxFront::new(alloc, Mode::VersionChange, schema, Texts::new(alloc)))
+fn new_upgrade(rt: &impl Abort, alloc: Global) -> TxFront<u32> {
+    let schema = Schema::new(
+        alloc,
+        Text::copy_of(alloc, "d").expect(rt, "memory"),
+        1,
+        StoreInfos::new(alloc),
+    )
+    .expect(rt, "memory");
+    TxFront::new(alloc, Mode::VersionChange, schema, Texts::new(alloc))
 }
 
-fn create_store(alloc: Global, front: &mut TxFront<u32>) -> Result<(), Fail> {
+fn create_store(rt: &impl Abort, alloc: Global, front: &mut TxFront<u32>) {
     let create = SchemaCall::CreateStore {
-        name: Text::copy_of(alloc, "s")?,
+        name: Text::copy_of(alloc, "s").expect(rt, "memory"),
         path: None,
         auto: false,
     };
-    if front.schema(create).is_err() {
-        return Err(Fail::new("no store made"));
-    }
-    Ok(())
+    assert!(rt; front.schema(create).is_ok());
 }
 
-fn target_of(alloc: Global, front: &TxFront<u32>) -> Result<Target, Fail> {
-    match front.store(&Text::copy_of(alloc, "s")?) {
-        Ok(store) => Ok(Target { store, index: None }),
-        Err(_) => Err(Fail::new("no store")),
+fn target_of(rt: &impl Abort, alloc: Global, front: &TxFront<u32>) -> Target {
+    match front.store(&Text::copy_of(alloc, "s").expect(rt, "memory")) {
+        Ok(store) => Target { store, index: None },
+        Err(_) => panic!(rt; "no store"),
     }
 }
 
-fn open_cursor(front: &mut TxFront<u32>, target: Target) -> Result<(), Fail> {
-    if front.place(open(target), 1).is_err() {
-        return Err(Fail::new("no cursor"));
-    }
-    Ok(())
+fn open_cursor(rt: &impl Abort, front: &mut TxFront<u32>, target: Target) {
+    assert!(rt; front.place(open(target), 1).is_ok());
 }
 
 /// An upgrade that made the store and opened a cursor by its first call.
-fn new_front(alloc: Global) -> Result<(TxFront<u32>, Target), Fail> {
-    let mut front = new_upgrade(alloc)?;
-    create_store(alloc, &mut front)?;
-    let target = target_of(alloc, &front)?;
-    open_cursor(&mut front, target)?;
-    Ok((front, target))
+fn new_front(rt: &impl Abort, alloc: Global) -> (TxFront<u32>, Target) {
+    let mut front = new_upgrade(rt, alloc);
+    create_store(rt, alloc, &mut front);
+    let target = target_of(rt, alloc, &front);
+    open_cursor(rt, &mut front, target);
+    (front, target)
 }
 
 fn open(target: Target) -> Call
@@ -154,78 +153,81 @@ fn say(value: &Value, said: &mut String) {
 }
 
 fn read<T: Tables>(
+    rt: &impl Abort,
     alloc: Global,
     store: &StoreVersion<T>,
     call: &Call,
     said: &mut String,
-) -> Result<(), Fail>
+)
     requires { IsFitCall call.now }
 {
-    match read_store(alloc, store, Over::Store, call)? {
-        Some(value) => {
-            say(&value, said);
-            Ok(())
-        }
-        None => Err(Fail::new("no read")),
+    match read_store(alloc, store, Over::Store, call).expect(rt, "memory") {
+        Some(value) => say(&value, said),
+        None => panic!(rt; "no read"),
     }
 }
 
 fn turn<T: Tables>(
+    rt: &impl Abort,
     alloc: Global,
     front: &mut TxFront<u32>,
     store: &StoreVersion<T>,
     call: &Call,
     said: &mut String,
-) -> Result<(), Fail>
+)
     requires { IsFitCall call.now }
 {
-    let value = turn_over(alloc, front, 1, store, Over::Store, call)?;
+    let value = turn_over(alloc, front, 1, store, Over::Store, call).expect(rt, "memory");
     say(&value, said);
-    Ok(())
 }
 
 // ---- one step each
 fn get<T: Tables>(
+    rt: &impl Abort,
     alloc: Global,
     store: &StoreVersion<T>,
     target: Target,
     n: i64,
     said: &mut String,
-) -> Result<(), Fail> {
+) {
     let query = Query::One(Value::Int(n));
-    read(alloc, store, &Call::Get { target, query }, said)
+    read(rt, alloc, store, &Call::Get { target, query }, said)
 }
 
 fn get_key<T: Tables>(
+    rt: &impl Abort,
     alloc: Global,
     store: &StoreVersion<T>,
     target: Target,
     n: i64,
     said: &mut String,
-) -> Result<(), Fail> {
+) {
     let query = Query::One(Value::Int(n));
-    read(alloc, store, &Call::GetKey { target, query }, said)
+    read(rt, alloc, store, &Call::GetKey { target, query }, said)
 }
 
 fn count<T: Tables>(
+    rt: &impl Abort,
     alloc: Global,
     store: &StoreVersion<T>,
     target: Target,
     said: &mut String,
-) -> Result<(), Fail> {
+) {
     let query = Query::Absent;
-    read(alloc, store, &Call::Count { target, query }, said)
+    read(rt, alloc, store, &Call::Count { target, query }, said)
 }
 
 fn read_all_keys<T: Tables>(
+    rt: &impl Abort,
     alloc: Global,
     store: &StoreVersion<T>,
     target: Target,
     said: &mut String,
-) -> Result<(), Fail> {
+) {
     let query = Query::Absent;
     let count = None;
     read(
+        rt,
         alloc,
         store,
         &Call::GetAllKeys {
@@ -238,12 +240,14 @@ fn read_all_keys<T: Tables>(
 }
 
 fn go_on<T: Tables>(
+    rt: &impl Abort,
     alloc: Global,
     front: &mut TxFront<u32>,
     store: &StoreVersion<T>,
     said: &mut String,
-) -> Result<(), Fail> {
+) {
     turn(
+        rt,
         alloc,
         front,
         store,
@@ -256,12 +260,14 @@ fn go_on<T: Tables>(
 }
 
 fn advance<T: Tables>(
+    rt: &impl Abort,
     alloc: Global,
     front: &mut TxFront<u32>,
     store: &StoreVersion<T>,
     said: &mut String,
-) -> Result<(), Fail> {
+) {
     turn(
+        rt,
         alloc,
         front,
         store,
@@ -274,38 +280,39 @@ fn advance<T: Tables>(
 }
 
 fn run<T: Tables>(
+    rt: &impl Abort,
     alloc: Global,
     step: Step,
     front: &mut TxFront<u32>,
     target: Target,
     store: &StoreVersion<T>,
     said: &mut String,
-) -> Result<(), Fail> {
+) {
     match step {
-        Step::Get(n) => get(alloc, store, target, n, said),
-        Step::GetKey(n) => get_key(alloc, store, target, n, said),
-        Step::Count => count(alloc, store, target, said),
-        Step::All(n) => read_all(alloc, store, target, n, said),
-        Step::AllKeys => read_all_keys(alloc, store, target, said),
-        Step::Open => turn(alloc, front, store, &open(target), said),
-        Step::Continue => go_on(alloc, front, store, said),
-        Step::Advance => advance(alloc, front, store, said),
+        Step::Get(n) => get(rt, alloc, store, target, n, said),
+        Step::GetKey(n) => get_key(rt, alloc, store, target, n, said),
+        Step::Count => count(rt, alloc, store, target, said),
+        Step::All(n) => read_all(rt, alloc, store, target, n, said),
+        Step::AllKeys => read_all_keys(rt, alloc, store, target, said),
+        Step::Open => turn(rt, alloc, front, store, &open(target), said),
+        Step::Continue => go_on(rt, alloc, front, store, said),
+        Step::Advance => advance(rt, alloc, front, store, said),
     }
 }
 
 fn read_all<T: Tables>(
+    rt: &impl Abort,
     alloc: Global,
     store: &StoreVersion<T>,
     target: Target,
     n: i64,
     said: &mut String,
-) -> Result<(), Fail> {
-    if !(0 <= n && n <= 4_294_967_295) {
-        return Err(Fail::new("no count"));
-    }
+) {
+    assert!(rt; 0 <= n && n <= 4_294_967_295);
     let query = Query::Absent;
     let count = Some(n);
     read(
+        rt,
         alloc,
         store,
         &Call::GetAll {
@@ -332,23 +339,22 @@ const STEPS: [Step; 12] = [
     Step::GetKey(4),
 ];
 
-fn answers<T: Tables>(alloc: Global) -> Result<String, Fail> {
-    let store: StoreVersion<T> = new_store(alloc)?;
-    let (mut front, target) = new_front(alloc)?;
+fn answers<T: Tables>(rt: &impl Abort, alloc: Global) -> String {
+    let store: StoreVersion<T> = new_store(rt, alloc);
+    let (mut front, target) = new_front(rt, alloc);
     let mut said = String::new(alloc);
     for step in STEPS {
-        run(alloc, step, &mut front, target, &store, &mut said)?;
+        run(rt, alloc, step, &mut front, target, &store, &mut said);
     }
-    Ok(said)
+    said
 }
 
 /// What the standard's steps give by hand: a cursor that advances by 2 from the record 1 stands at 5, and then at nothing.
 #[test]
-fn reads_and_turns_answer(rt: HostRuntime) -> Result<(), Fail> {
-    let said = answers::<FlatTables>(rt.alloc())?;
+fn reads_and_turns_answer(rt: HostRuntime) {
+    let said = answers::<FlatTables>(&rt, rt.alloc());
     assert_eq!(rt;
         said.as_str(),
         "20 undefined 2 3 30,20,10, 30,20, 1,2,5, key=1,primaryKey=1,value=30, key=5,primaryKey=5,value=10, null 10 undefined "
     );
-    Ok(())
 }

@@ -2,13 +2,12 @@
 use clone_values::Text;
 use disk_trait::{Area, Disk, DiskPlan, Image, MemoryDisk};
 use edge_traits::{Gate, MemorySink, MemorySource, OpenGate};
-use idb_base::{GREATEST_LENGTH, NoMemory};
+use idb_base::GREATEST_LENGTH;
 use script_runner::{Ended, run_words};
 use std::alloc::Global;
 use std::process::Abort;
 use std::sync::Wait;
 use std::sync::atomic::{AtomicU64, Ordering};
-use std::test::Fail;
 use std::thread::Threads;
 
 const SCRIPT: &str = r#"{"sessions":[{"clients":[{"blocks":{
@@ -108,25 +107,25 @@ impl Gate for CountingGate {
     }
 }
 
-fn words_of(alloc: Global, texts: &[&str]) -> Result<Vec<Text>, NoMemory> {
+fn words_of(rt: &impl Abort, alloc: Global, texts: &[&str]) -> Vec<Text> {
     let mut words = Vec::new(alloc);
     for text in texts {
-        if text.len() > GREATEST_LENGTH {
-            return Err(NoMemory);
-        }
-        words.push(Text::copy_of(alloc, text)?)?;
+        assert!(rt; text.len() <= GREATEST_LENGTH);
+        words
+            .push(Text::copy_of(alloc, text).expect(rt, "memory"))
+            .expect(rt, "memory");
     }
-    Ok(words)
+    words
 }
 
 // A disk with two blank areas, whose calls of these numbers fail. A restart finds what was synced.
-fn blank(alloc: Global, failing_calls: &[u64]) -> Result<MemoryDisk, Fail> {
+fn blank(rt: &impl Abort, alloc: Global, failing_calls: &[u64]) -> MemoryDisk {
     let plan = DiskPlan {
-        fail_at: Vec::from_slice(alloc, failing_calls)?,
+        fail_at: Vec::from_slice(alloc, failing_calls).expect(rt, "memory"),
         stop_after: None,
         image: Image::Dropped,
     };
-    Ok(MemoryDisk::with_room(alloc, 100_000, 1000, plan)?)
+    MemoryDisk::with_room(alloc, 100_000, 1000, plan).expect(rt, "memory")
 }
 
 // The number of the status, the line, and what was written.
@@ -138,13 +137,13 @@ fn run_on<R: Threads + Wait + Sync + Abort>(
     failing_reads: &[u64],
     room: usize,
     disk: MemoryDisk,
-) -> Result<(u8, String, String), Fail> {
-    let words = words_of(alloc, texts)?;
+) -> (u8, String, String) {
+    let words = words_of(rt, alloc, texts);
     let mut source = MemorySource::new(
-        Vec::from_slice(alloc, input)?,
-        Vec::from_slice(alloc, failing_reads)?,
+        Vec::from_slice(alloc, input).expect(rt, "memory"),
+        Vec::from_slice(alloc, failing_reads).expect(rt, "memory"),
     );
-    let mut sink = MemorySink::with_room(alloc, room, Vec::new(alloc))?;
+    let mut sink = MemorySink::with_room(alloc, room, Vec::new(alloc)).expect(rt, "memory");
     let Ended { status, disk: _ } = run_words(
         rt,
         alloc,
@@ -154,13 +153,13 @@ fn run_on<R: Threads + Wait + Sync + Abort>(
         disk,
         &OpenGate,
     );
-    let line = format!(in alloc; "{status}")?;
-    let text = String::from_utf8_lossy(alloc, sink.bytes())?;
-    Ok((status.number(), line, text))
+    let line = format!(in alloc; "{status}").expect(rt, "memory");
+    let text = String::from_utf8_lossy(alloc, sink.bytes()).expect(rt, "memory");
+    (status.number(), line, text)
 }
 
 #[test]
-fn prints_the_report(rt: HostRuntime) -> Result<(), Fail> {
+fn prints_the_report(rt: HostRuntime) {
     let cases = [
         (SCRIPT, REPORT),
         (
@@ -177,16 +176,15 @@ fn prints_the_report(rt: HostRuntime) -> Result<(), Fail> {
             input.as_bytes(),
             &[],
             4096,
-            blank(rt.alloc(), &[])?,
-        )?;
+            blank(&rt, rt.alloc(), &[]),
+        );
         assert_eq!(rt; (status, line.as_str()), (0, ""), "{input}");
         assert_eq!(rt; text.as_str(), report, "{input}");
     }
-    Ok(())
 }
 
 #[test]
-fn refuses_and_fails(rt: HostRuntime) -> Result<(), Fail> {
+fn refuses_and_fails(rt: HostRuntime) {
     let cases: [(&str, &[u64], usize, u8, &str, &str); 10] = [
         ("", &[], 4096, 4, "idbrun: bad script at 0", ""),
         (
@@ -228,17 +226,16 @@ fn refuses_and_fails(rt: HostRuntime) -> Result<(), Fail> {
             input.as_bytes(),
             failing_reads,
             room,
-            blank(rt.alloc(), &[])?,
-        )?;
+            blank(&rt, rt.alloc(), &[]),
+        );
         assert_eq!(rt; (found, said.as_str()), (number, line), "{input}");
         assert_eq!(rt; written.as_str(), text, "{input}");
     }
-    Ok(())
 }
 
 #[test]
-fn refuses_a_script_that_is_too_long(rt: HostRuntime) -> Result<(), Fail> {
-    let input = vec![in rt.alloc(); b' '; 16_777_217]?;
+fn refuses_a_script_that_is_too_long(rt: HostRuntime) {
+    let input = vec![in rt.alloc(); b' '; 16_777_217].expect(&rt, "memory");
     let (found, said, written) = run_on(
         &rt,
         rt.alloc(),
@@ -246,15 +243,14 @@ fn refuses_a_script_that_is_too_long(rt: HostRuntime) -> Result<(), Fail> {
         input.as_slice(),
         &[],
         4096,
-        blank(rt.alloc(), &[])?,
-    )?;
+        blank(&rt, rt.alloc(), &[]),
+    );
     assert_eq!(rt; (found, said.as_str()), (3, "idbrun: script too long"));
     assert_eq!(rt; written.as_str(), "");
-    Ok(())
 }
 
 #[test]
-fn takes_the_one_word(rt: HostRuntime) -> Result<(), Fail> {
+fn takes_the_one_word(rt: HostRuntime) {
     let cases: [&[&str]; 4] = [&[], &["x"], &["run", "x"], &["run", "--drivers", "0"]];
     for texts in cases {
         let (found, said, written) = run_on(
@@ -264,26 +260,25 @@ fn takes_the_one_word(rt: HostRuntime) -> Result<(), Fail> {
             SCRIPT.as_bytes(),
             &[],
             4096,
-            blank(rt.alloc(), &[])?,
-        )?;
+            blank(&rt, rt.alloc(), &[]),
+        );
         assert_eq!(rt; (found, said.as_str()), (2, "idbrun: usage: idbrun run"));
         assert_eq!(rt; written.as_str(), "");
     }
-    Ok(())
 }
 
-fn joined(alloc: Global, texts: &[&str]) -> Result<String, Fail> {
+fn joined(rt: &impl Abort, alloc: Global, texts: &[&str]) -> String {
     let mut whole = String::new(alloc);
     for text in texts {
-        whole.push_str(text)?;
+        whole.push_str(text).expect(rt, "memory");
     }
-    Ok(whole)
+    whole
 }
 
 // The eleven calls of the first opening are followed by the four of the upgrade, which is strict, and the four of the strict commit;
 // the twentieth is the restart. A session within which the disk fails ends by that.
 #[test]
-fn opens_what_the_session_before_left(rt: HostRuntime) -> Result<(), Fail> {
+fn opens_what_the_session_before_left(rt: HostRuntime) {
     let cases: [(&[u64], u8, &str, &[&str]); 6] = [
         (&[], 0, "", &[FIRST, SECOND]),
         (&[3], 7, "idbrun: disk fault", &[]),
@@ -300,18 +295,17 @@ fn opens_what_the_session_before_left(rt: HostRuntime) -> Result<(), Fail> {
             FOUR_COMMITS.as_bytes(),
             &[],
             4096,
-            blank(rt.alloc(), failing_calls)?,
-        )?;
+            blank(&rt, rt.alloc(), failing_calls),
+        );
         assert_eq!(rt; (found, said.as_str()), (number, line), "{failing_calls:?}");
-        let wanted = joined(rt.alloc(), reports)?;
+        let wanted = joined(&rt, rt.alloc(), reports);
         assert_eq!(rt; written.as_str(), wanted.as_str(), "{failing_calls:?}");
     }
-    Ok(())
 }
 
 // The sixteenth call is the first of the flush.
 #[test]
-fn ends_by_a_fault_of_the_last_flush(rt: HostRuntime) -> Result<(), Fail> {
+fn ends_by_a_fault_of_the_last_flush(rt: HostRuntime) {
     let (found, said, written) = run_on(
         &rt,
         rt.alloc(),
@@ -319,22 +313,21 @@ fn ends_by_a_fault_of_the_last_flush(rt: HostRuntime) -> Result<(), Fail> {
         SCRIPT.as_bytes(),
         &[],
         4096,
-        blank(rt.alloc(), &[16])?,
-    )?;
+        blank(&rt, rt.alloc(), &[16]),
+    );
     assert_eq!(rt; (found, said.as_str()), (0, ""));
     assert_eq!(rt; written.as_str(), FLUSH_FAULT);
-    Ok(())
 }
 
 #[test]
-fn says_where_the_disk_is_damaged(rt: HostRuntime) -> Result<(), Fail> {
+fn says_where_the_disk_is_damaged(rt: HostRuntime) {
     let cases: [(&[u8], &str); 2] = [
         (b"\xa5IDBLOG02", "idbrun: damaged area 0 at 1"),
         (b"\xa5IDBLOG01\x00\x00", "idbrun: damaged area 0 at 9"),
     ];
     for (bytes, line) in cases {
-        let mut disk = blank(rt.alloc(), &[])?;
-        disk.write_at(Area::Zero, 0, bytes)?;
+        let mut disk = blank(&rt, rt.alloc(), &[]);
+        disk.write_at(Area::Zero, 0, bytes).expect(&rt, "a write");
         let (found, said, written) = run_on(
             &rt,
             rt.alloc(),
@@ -343,21 +336,22 @@ fn says_where_the_disk_is_damaged(rt: HostRuntime) -> Result<(), Fail> {
             &[],
             4096,
             disk,
-        )?;
+        );
         assert_eq!(rt; (found, said.as_str()), (8, line));
         assert_eq!(rt; written.as_str(), "");
     }
-    Ok(())
 }
 
 #[test]
-fn tells_the_gate_of_each_request(rt: HostRuntime) -> Result<(), Fail> {
-    let words = words_of(rt.alloc(), &["run"])?;
+fn tells_the_gate_of_each_request(rt: HostRuntime) {
+    let words = words_of(&rt, rt.alloc(), &["run"]);
     let mut source = MemorySource::new(
-        Vec::from_slice(rt.alloc(), FOUR_PUTS.as_bytes())?,
+        Vec::from_slice(rt.alloc(), FOUR_PUTS.as_bytes()).expect(&rt, "memory"),
         Vec::new(rt.alloc()),
     );
-    let mut sink = MemorySink::with_room(rt.alloc(), 4096, Vec::new(rt.alloc()))?;
+    let mut sink = MemorySink::with_room(rt.alloc(), 4096, Vec::new(rt.alloc())).expect(
+        &rt, "memory",
+    );
     let gate = CountingGate {
         calls: AtomicU64::new(0),
         sum: AtomicU64::new(0),
@@ -368,7 +362,7 @@ fn tells_the_gate_of_each_request(rt: HostRuntime) -> Result<(), Fail> {
         words.as_slice(),
         &mut source,
         &mut sink,
-        blank(rt.alloc(), &[])?,
+        blank(&rt, rt.alloc(), &[]),
         &gate,
     );
     assert!(rt; ended.status.is_done());
@@ -377,5 +371,4 @@ fn tells_the_gate_of_each_request(rt: HostRuntime) -> Result<(), Fail> {
         gate.sum.load(Ordering::SeqCst),
         10_201 + 10_202 + 10_203 + 20_301
     );
-    Ok(())
 }

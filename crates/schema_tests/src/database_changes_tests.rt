@@ -7,7 +7,6 @@ use idb_databases::Databases;
 use index_tables::FlatTables;
 use std::alloc::Global;
 use std::process::Abort;
-use std::test::Fail;
 use store_changes::ChangeError;
 
 type Items = Databases<FlatTables>;
@@ -25,85 +24,81 @@ enum Step {
     Clear,
 }
 
-fn text(alloc: Global, s: &str) -> Result<Text, Fail> {
-    if s.len() > GREATEST_LENGTH {
-        Err("a long text")?
-    }
-    Ok(Text::copy_of(alloc, s)?)
+fn text(rt: &impl Abort, alloc: Global, s: &str) -> Text {
+    assert!(rt; s.len() <= GREATEST_LENGTH);
+    Text::copy_of(alloc, s).expect(rt, "memory")
 }
 
 type Answer = Result<(), ChangeError>;
 
-fn set_version(alloc: Global, items: &mut Items, version: u64) -> Result<Answer, Fail> {
-    if version < 1 || version > 100 {
-        Err("no version")?
-    }
-    let db = text(alloc, "d")?;
-    Ok(change_databases(alloc, items, Delta::Version { db, version }))
+fn set_version(rt: &impl Abort, alloc: Global, items: &mut Items, version: u64) -> Answer {
+    assert!(rt; version >= 1 && version <= 100);
+    let db = text(rt, alloc, "d");
+    change_databases(alloc, items, Delta::Version { db, version })
 }
 
-fn drop_database(alloc: Global, items: &mut Items) -> Result<Answer, Fail> {
-    let db = text(alloc, "d")?;
-    Ok(change_databases(alloc, items, Delta::DropDatabase { db }))
+fn drop_database(rt: &impl Abort, alloc: Global, items: &mut Items) -> Answer {
+    let db = text(rt, alloc, "d");
+    change_databases(alloc, items, Delta::DropDatabase { db })
 }
 
-fn create_store(alloc: Global, items: &mut Items) -> Result<Answer, Fail> {
-    let db = text(alloc, "d")?;
-    let store = text(alloc, "s")?;
+fn create_store(rt: &impl Abort, alloc: Global, items: &mut Items) -> Answer {
+    let db = text(rt, alloc, "d");
+    let store = text(rt, alloc, "s");
     let change = Delta::CreateStore {
         db,
         store,
         path: None,
         auto: false,
     };
-    Ok(change_databases(alloc, items, change))
+    change_databases(alloc, items, change)
 }
 
-fn drop_store(alloc: Global, items: &mut Items) -> Result<Answer, Fail> {
-    let db = text(alloc, "d")?;
-    let store = text(alloc, "s")?;
-    Ok(change_databases(alloc, items, Delta::DropStore { db, store }))
+fn drop_store(rt: &impl Abort, alloc: Global, items: &mut Items) -> Answer {
+    let db = text(rt, alloc, "d");
+    let store = text(rt, alloc, "s");
+    change_databases(alloc, items, Delta::DropStore { db, store })
 }
 
-fn put(alloc: Global, items: &mut Items) -> Result<Answer, Fail> {
-    let db = text(alloc, "d")?;
-    let store = text(alloc, "s")?;
+fn put(rt: &impl Abort, alloc: Global, items: &mut Items) -> Answer {
+    let db = text(rt, alloc, "d");
+    let store = text(rt, alloc, "s");
     let change = Delta::Put {
         db,
         store,
         key: Key::Number(1),
         value: Value::Null,
     };
-    Ok(change_databases(alloc, items, change))
+    change_databases(alloc, items, change)
 }
 
-fn remove(alloc: Global, items: &mut Items) -> Result<Answer, Fail> {
-    let db = text(alloc, "d")?;
-    let store = text(alloc, "s")?;
+fn remove(rt: &impl Abort, alloc: Global, items: &mut Items) -> Answer {
+    let db = text(rt, alloc, "d");
+    let store = text(rt, alloc, "s");
     let change = Delta::Remove {
         db,
         store,
         key: Key::Number(1),
     };
-    Ok(change_databases(alloc, items, change))
+    change_databases(alloc, items, change)
 }
 
-fn clear(alloc: Global, items: &mut Items) -> Result<Answer, Fail> {
-    let db = text(alloc, "d")?;
-    let store = text(alloc, "s")?;
-    Ok(change_databases(alloc, items, Delta::Clear { db, store }))
+fn clear(rt: &impl Abort, alloc: Global, items: &mut Items) -> Answer {
+    let db = text(rt, alloc, "d");
+    let store = text(rt, alloc, "s");
+    change_databases(alloc, items, Delta::Clear { db, store })
 }
 
-fn made(alloc: Global, items: &mut Items, step: Step) -> Result<Answer, Fail> {
+fn made(rt: &impl Abort, alloc: Global, items: &mut Items, step: Step) -> Answer {
     match step {
-        Step::First => set_version(alloc, items, 1),
-        Step::Second => set_version(alloc, items, 2),
-        Step::DropDatabase => drop_database(alloc, items),
-        Step::CreateStore => create_store(alloc, items),
-        Step::DropStore => drop_store(alloc, items),
-        Step::Put => put(alloc, items),
-        Step::Remove => remove(alloc, items),
-        Step::Clear => clear(alloc, items),
+        Step::First => set_version(rt, alloc, items, 1),
+        Step::Second => set_version(rt, alloc, items, 2),
+        Step::DropDatabase => drop_database(rt, alloc, items),
+        Step::CreateStore => create_store(rt, alloc, items),
+        Step::DropStore => drop_store(rt, alloc, items),
+        Step::Put => put(rt, alloc, items),
+        Step::Remove => remove(rt, alloc, items),
+        Step::Clear => clear(rt, alloc, items),
     }
 }
 
@@ -139,13 +134,12 @@ const STEPS: [Step; 18] = [
 ];
 
 #[test]
-fn changes_and_refusals(rt: HostRuntime) -> Result<(), Fail> {
+fn changes_and_refusals(rt: HostRuntime) {
     let mut items = Items::new(rt.alloc());
     let mut said = String::new(rt.alloc());
     for step in STEPS {
-        let answer = made(rt.alloc(), &mut items, step)?;
-        said.push_str(told(answer))?;
+        let answer = made(&rt, rt.alloc(), &mut items, step);
+        said.push_str(told(answer)).expect(&rt, "memory");
     }
     assert_eq!(rt; (said.as_str(), items.len()), ("---+--+--+++-++-++", 0));
-    Ok(())
 }

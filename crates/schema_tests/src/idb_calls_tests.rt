@@ -6,49 +6,50 @@ use path_grammar::KeyPath;
 use std::alloc::Global;
 use std::fmt::Write;
 use std::process::Abort;
-use std::test::Fail;
 
-fn path(alloc: Global) -> Result<KeyPath, Fail> {
-    Ok(KeyPath::parse(PathSpec::One(Text::copy_of(alloc, "p")?))?)
+fn path(rt: &impl Abort, alloc: Global) -> KeyPath {
+    KeyPath::parse(PathSpec::One(Text::copy_of(alloc, "p").expect(rt, "memory"))).expect(
+        rt, "a path",
+    )
 }
 
-fn create_store(alloc: Global, db: Text, store: Text) -> Result<Delta, Fail> {
-    Ok(Delta::CreateStore {
+fn create_store(rt: &impl Abort, alloc: Global, db: Text, store: Text) -> Delta {
+    Delta::CreateStore {
         db,
         store,
-        path: Some(path(alloc)?),
+        path: Some(path(rt, alloc)),
         auto: true,
-    })
+    }
 }
 
-fn create_index(alloc: Global, db: Text, store: Text) -> Result<Delta, Fail> {
-    Ok(Delta::CreateIndex {
+fn create_index(rt: &impl Abort, alloc: Global, db: Text, store: Text) -> Delta {
+    Delta::CreateIndex {
         db,
         store,
-        index: Text::copy_of(alloc, "i")?,
-        path: path(alloc)?,
+        index: Text::copy_of(alloc, "i").expect(rt, "memory"),
+        path: path(rt, alloc),
         unique: true,
         multi: false,
-    })
+    }
 }
 
-fn drop_index(alloc: Global, db: Text, store: Text) -> Result<Delta, Fail> {
-    Ok(Delta::DropIndex {
+fn drop_index(rt: &impl Abort, alloc: Global, db: Text, store: Text) -> Delta {
+    Delta::DropIndex {
         db,
         store,
-        index: Text::copy_of(alloc, "i")?,
-    })
+        index: Text::copy_of(alloc, "i").expect(rt, "memory"),
+    }
 }
 
 /// One change of each kind of change of definitions, of database d, store s and index i.
-fn definition(alloc: Global, kind: usize, db: Text, store: Text) -> Result<Delta, Fail> {
+fn definition(rt: &impl Abort, alloc: Global, kind: usize, db: Text, store: Text) -> Delta {
     match kind {
-        0 => Ok(Delta::Version { db, version: 2 }),
-        1 => Ok(Delta::DropDatabase { db }),
-        2 => create_store(alloc, db, store),
-        3 => Ok(Delta::DropStore { db, store }),
-        4 => create_index(alloc, db, store),
-        _ => drop_index(alloc, db, store),
+        0 => Delta::Version { db, version: 2 },
+        1 => Delta::DropDatabase { db },
+        2 => create_store(rt, alloc, db, store),
+        3 => Delta::DropStore { db, store },
+        4 => create_index(rt, alloc, db, store),
+        _ => drop_index(rt, alloc, db, store),
     }
 }
 
@@ -76,13 +77,13 @@ fn content(kind: usize, db: Text, store: Text) -> Delta {
 }
 
 /// One change of each kind.
-fn delta(alloc: Global, kind: usize) -> Result<Delta, Fail> {
-    let db = Text::copy_of(alloc, "d")?;
-    let store = Text::copy_of(alloc, "s")?;
+fn delta(rt: &impl Abort, alloc: Global, kind: usize) -> Delta {
+    let db = Text::copy_of(alloc, "d").expect(rt, "memory");
+    let store = Text::copy_of(alloc, "s").expect(rt, "memory");
     if kind < 6 {
-        definition(alloc, kind, db, store)
+        definition(rt, alloc, kind, db, store)
     } else {
-        Ok(content(kind, db, store))
+        content(kind, db, store)
     }
 }
 
@@ -186,17 +187,17 @@ fn told(said: &mut String, delta: &Delta) {
 }
 
 /// One change of each kind, put in one after the other.
-fn all_kinds(alloc: Global) -> Result<Deltas, Fail> {
+fn all_kinds(rt: &impl Abort, alloc: Global) -> Deltas {
     let mut deltas = Deltas::new(alloc);
     for kind in 0..10 {
-        deltas.push(delta(alloc, kind)?)?;
+        deltas.push(delta(rt, alloc, kind)).expect(rt, "memory");
     }
-    Ok(deltas)
+    deltas
 }
 
 #[test]
-fn changes_are_kept_in_order(rt: HostRuntime) -> Result<(), Fail> {
-    let deltas = all_kinds(rt.alloc())?;
+fn changes_are_kept_in_order(rt: HostRuntime) {
+    let deltas = all_kinds(&rt, rt.alloc());
     let mut said = String::new(rt.alloc());
     for place in 0..deltas.len() {
         if let Some(delta) = deltas.at(place) {
@@ -207,7 +208,6 @@ fn changes_are_kept_in_order(rt: HostRuntime) -> Result<(), Fail> {
         said.as_str(),
         "d is 2\nd goes\nd.s true p\nd.s goes\nd.s.i true false p\nd.s.i goes\nd.s puts 3 true\nd.s loses 4\nd.s is clear\nd.s counts 5\n"
     );
-    Ok(())
 }
 
 /// The numbers of the requests, with the name of each error.
@@ -224,37 +224,44 @@ fn events_told(said: &mut String, events: &Events) {
 }
 
 /// The events of a trace, copied.
-fn events_copied(alloc: Global, said: &mut String) -> Result<(), Fail> {
+fn events_copied(rt: &impl Abort, alloc: Global, said: &mut String) {
     let mut lines = Events::new(alloc);
-    lines.push(Event::Success {
-        request: 1,
-        result: Value::Int(7),
-    })?;
-    lines.push(Event::Error {
-        request: 2,
-        name: ErrorName::DataError,
-    })?;
-    events_told(said, &lines.copy(alloc)?);
-    Ok(())
+    lines
+        .push(Event::Success {
+            request: 1,
+            result: Value::Int(7),
+        })
+        .expect(rt, "memory");
+    lines
+        .push(Event::Error {
+            request: 2,
+            name: ErrorName::DataError,
+        })
+        .expect(rt, "memory");
+    events_told(said, &lines.copy(alloc).expect(rt, "memory"));
 }
 
 /// The steps of a trace, copied.
-fn steps_copied(alloc: Global, said: &mut String) -> Result<(), Fail> {
+fn steps_copied(rt: &impl Abort, alloc: Global, said: &mut String) {
     let mut order = Tokens::new(alloc);
-    order.push(Token::Started { number: 9 })?;
-    order.push(Token::Faulted)?;
-    let _ = write!(said, "{:?}", order.copy(alloc)?.as_slice());
-    Ok(())
+    order
+        .push(Token::Started { number: 9 })
+        .expect(rt, "memory");
+    order.push(Token::Faulted).expect(rt, "memory");
+    let _ = write!(
+        said,
+        "{:?}",
+        order.copy(alloc).expect(rt, "memory").as_slice()
+    );
 }
 
 #[test]
-fn copies_are_equal(rt: HostRuntime) -> Result<(), Fail> {
+fn copies_are_equal(rt: HostRuntime) {
     let mut said = String::new(rt.alloc());
-    events_copied(rt.alloc(), &mut said)?;
-    steps_copied(rt.alloc(), &mut said)?;
+    events_copied(&rt, rt.alloc(), &mut said);
+    steps_copied(&rt, rt.alloc(), &mut said);
     assert_eq!(rt;
         said.as_str(),
         "1 gives 7; 2 DataError; [Started { number: 9 }, Faulted]"
     );
-    Ok(())
 }

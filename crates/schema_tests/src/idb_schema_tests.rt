@@ -4,52 +4,51 @@ use idb_schema::*;
 use path_grammar::KeyPath;
 use std::alloc::Global;
 use std::process::Abort;
-use std::test::Fail;
 
-fn text(alloc: Global, s: &str) -> Result<Text, Fail> {
-    if s.len() > GREATEST_LENGTH {
-        return Err(Fail::new("a text that is too long"));
-    }
-    Ok(Text::copy_of(alloc, s)?)
+fn text(rt: &impl Abort, alloc: Global, s: &str) -> Text {
+    assert!(rt; s.len() <= GREATEST_LENGTH);
+    Text::copy_of(alloc, s).expect(rt, "memory")
 }
 
-fn index(alloc: Global, name: &str) -> Result<IndexInfo, Fail> {
-    Ok(IndexInfo {
-        name: text(alloc, name)?,
-        path: KeyPath::parse(PathSpec::One(text(alloc, "a.b")?))?,
+fn index(rt: &impl Abort, alloc: Global, name: &str) -> IndexInfo {
+    IndexInfo {
+        name: text(rt, alloc, name),
+        path: KeyPath::parse(PathSpec::One(text(rt, alloc, "a.b"))).expect(rt, "a path"),
         unique: true,
         multi: false,
-    })
+    }
 }
 
 /// A store of this name with indexes of these names.
-fn store(alloc: Global, name: &str, indexes: &[&str]) -> Result<StoreInfo, Fail> {
+fn store(rt: &impl Abort, alloc: Global, name: &str, indexes: &[&str]) -> StoreInfo {
     let mut infos = IndexInfos::new(alloc);
     for index_name in indexes {
-        infos.push(index(alloc, *index_name)?)?;
+        infos
+            .push(index(rt, alloc, *index_name))
+            .expect(rt, "memory");
     }
-    Ok(StoreInfo {
-        name: text(alloc, name)?,
+    StoreInfo {
+        name: text(rt, alloc, name),
         path: None,
         auto: true,
         indexes: infos,
-    })
+    }
 }
 
 /// The stores of these names that can be put behind one another.
-fn stores(alloc: Global, names: &[&str]) -> Result<StoreInfos, Fail> {
+fn stores(rt: &impl Abort, alloc: Global, names: &[&str]) -> StoreInfos {
     let mut infos = StoreInfos::new(alloc);
     for name in names {
-        let info = store(alloc, *name, &["one", "two"])?;
+        let info = store(rt, alloc, *name, &["one", "two"]);
         if infos.can_push(&info.name) {
-            infos.push(info)?;
+            infos.push(info).expect(rt, "memory");
         }
     }
-    Ok(infos)
+    infos
 }
 
-fn schema(alloc: Global, names: &[&str]) -> Result<Schema, Fail> {
-    Ok(Schema::new(alloc, text(alloc, "db")?, 7, stores(alloc, names)?)?)
+fn schema(rt: &impl Abort, alloc: Global, names: &[&str]) -> Schema {
+    Schema::new(alloc, text(rt, alloc, "db"), 7, stores(rt, alloc, names)).expect(rt, "memory")
 }
 
 fn name_at(schema: &Schema, place: usize) -> &str {
@@ -60,86 +59,84 @@ fn name_at(schema: &Schema, place: usize) -> &str {
 }
 
 /// The names of the stores, each behind a slash.
-fn names(alloc: Global, schema: &Schema) -> Result<String, Fail> {
+fn names(rt: &impl Abort, alloc: Global, schema: &Schema) -> String {
     let mut out = String::new(alloc);
     for place in 0..schema.len() {
-        out.push('/')?;
-        out.push_str(name_at(schema, place))?;
+        out.push('/').expect(rt, "memory");
+        out.push_str(name_at(schema, place)).expect(rt, "memory");
     }
-    Ok(out)
+    out
 }
 
 /// The names of the indexes of the store at this place, each behind a slash.
-fn index_names(alloc: Global, schema: &Schema, place: usize) -> Result<String, Fail> {
+fn index_names(rt: &impl Abort, alloc: Global, schema: &Schema, place: usize) -> String {
     let mut out = String::new(alloc);
     if let Some(info) = schema.store(place) {
         for at in 0..info.indexes.len() {
             if let Some(index) = info.indexes.at(at) {
-                out.push('/')?;
-                out.push_str(index.name.as_str())?;
+                out.push('/').expect(rt, "memory");
+                out.push_str(index.name.as_str()).expect(rt, "memory");
             }
         }
     }
-    Ok(out)
+    out
 }
 
 /// Adds a store, where its name is new, and gives its id.
-fn add(alloc: Global, schema: &mut Schema, name: &str) -> Result<Option<StoreId>, Fail> {
-    let info = store(alloc, name, &[])?;
+fn add(rt: &impl Abort, alloc: Global, schema: &mut Schema, name: &str) -> Option<StoreId> {
+    let info = store(rt, alloc, name, &[]);
     if schema.store_place(&info.name).is_none() {
-        schema.add_store(info)?;
+        schema.add_store(info).expect(rt, "memory");
     }
-    id(alloc, schema, name)
+    id(rt, alloc, schema, name)
 }
 
-fn id(alloc: Global, schema: &Schema, name: &str) -> Result<Option<StoreId>, Fail> {
-    match schema.store_place(&text(alloc, name)?) {
-        Some(place) => Ok(Some(schema.store_id(place))),
-        None => Ok(None),
+fn id(rt: &impl Abort, alloc: Global, schema: &Schema, name: &str) -> Option<StoreId> {
+    match schema.store_place(&text(rt, alloc, name)) {
+        Some(place) => Some(schema.store_id(place)),
+        None => None,
     }
 }
 
-fn drop_named(alloc: Global, schema: &mut Schema, name: &str) -> Result<(), Fail> {
-    if let Some(place) = schema.store_place(&text(alloc, name)?) {
+fn drop_named(rt: &impl Abort, alloc: Global, schema: &mut Schema, name: &str) {
+    if let Some(place) = schema.store_place(&text(rt, alloc, name)) {
         schema.drop_store(place);
     }
-    Ok(())
 }
 
 /// Adds an index to the store of this name, where the index's name is new.
-fn add_index(alloc: Global, schema: &mut Schema, store: &str, name: &str) -> Result<(), Fail> {
-    let info = index(alloc, name)?;
-    if let Some(place) = schema.store_place(&text(alloc, store)?) {
+fn add_index(rt: &impl Abort, alloc: Global, schema: &mut Schema, store: &str, name: &str) {
+    let info = index(rt, alloc, name);
+    if let Some(place) = schema.store_place(&text(rt, alloc, store)) {
         if schema.index_place(place, &info.name).is_none() {
-            schema.add_index(place, info)?;
+            schema.add_index(place, info).expect(rt, "memory");
         }
     }
-    Ok(())
 }
 
 fn index_id(
+    rt: &impl Abort,
     alloc: Global,
     schema: &Schema,
     store: &str,
     name: &str,
-) -> Result<Option<IndexId>, Fail> {
-    let Some(place) = schema.store_place(&text(alloc, store)?) else {
-        return Ok(None);
+) -> Option<IndexId> {
+    let Some(place) = schema.store_place(&text(rt, alloc, store)) else {
+        return None;
     };
-    match schema.index_place(place, &text(alloc, name)?) {
-        Some(at) => Ok(Some(schema.index_id(place, at))),
-        None => Ok(None),
+    match schema.index_place(place, &text(rt, alloc, name)) {
+        Some(at) => Some(schema.index_id(place, at)),
+        None => None,
     }
 }
 
-fn drop_index(alloc: Global, schema: &mut Schema, store: &str, name: &str) -> Result<(), Fail> {
-    let Some(place) = schema.store_place(&text(alloc, store)?) else {
-        return Ok(());
+fn drop_index(rt: &impl Abort, alloc: Global, schema: &mut Schema, store: &str, name: &str) {
+    let Some(place) = schema.store_place(&text(rt, alloc, store)) else {
+        return;
     };
-    if let Some(at) = schema.index_place(place, &text(alloc, name)?) {
+    if let Some(at) = schema.index_place(place, &text(rt, alloc, name)) {
         schema.drop_index(place, at);
     }
-    Ok(())
 }
 
 /// Where a store that an id may name stands.
@@ -221,56 +218,57 @@ fn mark_dropped(created: &mut [Created], name: &str) {
 
 /// Creates or drops the store of the name at this place of `NAMES`.
 fn make(
+    rt: &impl Abort,
     alloc: Global,
     schema: &mut Schema,
     created: &mut Vec<Created>,
     creates: bool,
     at: usize,
-) -> Result<(), Fail> {
+) {
     let name: &'static str = NAMES.get(at).copied().unwrap_or("");
     if creates {
-        let id = add(alloc, schema, name)?;
-        created.push(Created {
-            name,
-            id,
-            dropped: false,
-        })?;
+        let id = add(rt, alloc, schema, name);
+        created
+            .push(Created {
+                name,
+                id,
+                dropped: false,
+            })
+            .expect(rt, "memory");
     } else {
-        drop_named(alloc, schema, name)?;
+        drop_named(rt, alloc, schema, name);
         mark_dropped(created, name);
     }
-    Ok(())
 }
 
 /// Each id goes on naming its store while others come and go, and names none once it is dropped, even where a new store
 /// has the name.
 #[test]
-fn store_ids_outlast_changes(rt: HostRuntime) -> Result<(), Fail> {
-    let mut schema = schema(rt.alloc(), &[])?;
+fn store_ids_outlast_changes(rt: HostRuntime) {
+    let mut schema = schema(&rt, rt.alloc(), &[]);
     let mut created = Vec::new(rt.alloc());
     for (creates, at) in &STEPS {
-        make(rt.alloc(), &mut schema, &mut created, *creates, *at)?;
+        make(&rt, rt.alloc(), &mut schema, &mut created, *creates, *at);
         check_ids(&rt, &schema, &created);
     }
     assert_eq!(rt;
-        names(rt.alloc(), &schema)?.as_str(),
+        names(&rt, rt.alloc(), &schema).as_str(),
         "/A/a/aa/b/\u{FF61}/\u{10000}"
     );
-    Ok(())
 }
 
 /// The stores b and d, of which d has the index three too.
-fn with_three(alloc: Global) -> Result<Schema, Fail> {
-    let mut schema = schema(alloc, &["b", "d"])?;
-    add_index(alloc, &mut schema, "d", "three")?;
-    Ok(schema)
+fn with_three(rt: &impl Abort, alloc: Global) -> Schema {
+    let mut schema = schema(rt, alloc, &["b", "d"]);
+    add_index(rt, alloc, &mut schema, "d", "three");
+    schema
 }
 
 /// Drops the index one of d, adds the store c, and adds the index again.
-fn change(alloc: Global, schema: &mut Schema) -> Result<(), Fail> {
-    drop_index(alloc, schema, "d", "one")?;
-    let _ = add(alloc, schema, "c")?;
-    add_index(alloc, schema, "d", "one")
+fn change(rt: &impl Abort, alloc: Global, schema: &mut Schema) {
+    drop_index(rt, alloc, schema, "d", "one");
+    let _ = add(rt, alloc, schema, "c");
+    add_index(rt, alloc, schema, "d", "one")
 }
 
 /// The store and the name of each index whose id is looked at.
@@ -279,12 +277,13 @@ static INDEXES: [(&str, &str); 4] = [("d", "one"), ("d", "two"), ("d", "three"),
 type Id = Option<IndexId>;
 
 /// The ids of the indexes in `INDEXES`.
-fn ids(alloc: Global, schema: &Schema) -> Result<Vec<Id>, Fail> {
+fn ids(rt: &impl Abort, alloc: Global, schema: &Schema) -> Vec<Id> {
     let mut ids = Vec::new(alloc);
     for (store, name) in &INDEXES {
-        ids.push(index_id(alloc, schema, store, name)?)?;
+        ids.push(index_id(rt, alloc, schema, store, name))
+            .expect(rt, "memory");
     }
-    Ok(ids)
+    ids
 }
 
 /// Where the index of the id at this place of the list stands.
@@ -297,21 +296,20 @@ fn places_at(schema: &Schema, ids: &[Id], at: usize) -> Option<(usize, usize)> {
 
 /// Indexes stand where they were added.
 #[test]
-fn index_ids_name_places(rt: HostRuntime) -> Result<(), Fail> {
-    let schema = with_three(rt.alloc())?;
-    let ids = ids(rt.alloc(), &schema)?;
+fn index_ids_name_places(rt: HostRuntime) {
+    let schema = with_three(&rt, rt.alloc());
+    let ids = ids(&rt, rt.alloc(), &schema);
     for (at, places) in [(0, Some((1, 0))), (2, Some((1, 2)))] {
         assert_eq!(rt; places_at(&schema, &ids, at), places);
     }
-    Ok(())
 }
 
 /// Indexes keep their order and their ids, whatever happens to others and to other stores.
 #[test]
-fn index_ids_outlast_changes(rt: HostRuntime) -> Result<(), Fail> {
-    let mut schema = with_three(rt.alloc())?;
-    let ids = ids(rt.alloc(), &schema)?;
-    change(rt.alloc(), &mut schema)?;
+fn index_ids_outlast_changes(rt: HostRuntime) {
+    let mut schema = with_three(&rt, rt.alloc());
+    let ids = ids(&rt, rt.alloc(), &schema);
+    change(&rt, rt.alloc(), &mut schema);
     for (at, places) in [
         (0, None),
         (1, Some((2, 0))),
@@ -321,80 +319,77 @@ fn index_ids_outlast_changes(rt: HostRuntime) -> Result<(), Fail> {
         assert_eq!(rt; places_at(&schema, &ids, at), places);
     }
     assert_eq!(rt;
-        index_names(rt.alloc(), &schema, 2)?.as_str(),
+        index_names(&rt, rt.alloc(), &schema, 2).as_str(),
         "/two/three/one"
     );
-    Ok(())
 }
 
 /// The ids of the indexes of a store that was dropped name none, and others are kept.
 #[test]
-fn index_ids_end_with_their_store(rt: HostRuntime) -> Result<(), Fail> {
-    let mut schema = with_three(rt.alloc())?;
-    let ids = ids(rt.alloc(), &schema)?;
-    change(rt.alloc(), &mut schema)?;
-    drop_named(rt.alloc(), &mut schema, "d")?;
+fn index_ids_end_with_their_store(rt: HostRuntime) {
+    let mut schema = with_three(&rt, rt.alloc());
+    let ids = ids(&rt, rt.alloc(), &schema);
+    change(&rt, rt.alloc(), &mut schema);
+    drop_named(&rt, rt.alloc(), &mut schema, "d");
     for (at, places) in [(1, None), (3, Some((0, 1)))] {
         assert_eq!(rt; places_at(&schema, &ids, at), places);
     }
-    Ok(())
 }
 
 /// The stores b and c, of the version 9; a, which would stand before b, is not put behind it.
-fn at_version_nine(alloc: Global) -> Result<Schema, Fail> {
-    let mut schema = schema(alloc, &["b", "a", "c"])?;
+fn at_version_nine(rt: &impl Abort, alloc: Global) -> Schema {
+    let mut schema = schema(rt, alloc, &["b", "a", "c"]);
     schema.set_version(9);
-    Ok(schema)
+    schema
 }
 
 /// Only names that rise are put behind one another.
 #[test]
-fn names_rise(rt: HostRuntime) -> Result<(), Fail> {
-    let schema = schema(rt.alloc(), &["b", "a", "c"])?;
-    assert_eq!(rt; names(rt.alloc(), &schema)?.as_str(), "/b/c");
-    Ok(())
+fn names_rise(rt: HostRuntime) {
+    let schema = schema(&rt, rt.alloc(), &["b", "a", "c"]);
+    assert_eq!(rt; names(&rt, rt.alloc(), &schema).as_str(), "/b/c");
 }
 
 /// A copy has the same ids.
 #[test]
-fn a_copy_keeps_ids(rt: HostRuntime) -> Result<(), Fail> {
-    let mut schema = at_version_nine(rt.alloc())?;
-    let id = id(rt.alloc(), &schema, "c")?;
-    let copy = schema.copy(rt.alloc())?;
-    drop_named(rt.alloc(), &mut schema, "b")?;
+fn a_copy_keeps_ids(rt: HostRuntime) {
+    let mut schema = at_version_nine(&rt, rt.alloc());
+    let id = id(&rt, rt.alloc(), &schema, "c");
+    let copy = schema.copy(rt.alloc()).expect(&rt, "memory");
+    drop_named(&rt, rt.alloc(), &mut schema, "b");
     assert_eq!(rt;
         (standing(&copy, id), standing(&schema, id)),
         (Some(1), Some(0))
     );
-    Ok(())
 }
 
-fn copy_of_nine(alloc: Global) -> Result<Schema, Fail> {
-    Ok(at_version_nine(alloc)?.copy(alloc)?)
+fn copy_of_nine(rt: &impl Abort, alloc: Global) -> Schema {
+    at_version_nine(rt, alloc).copy(alloc).expect(rt, "memory")
 }
 
 /// A copy has the version and the names that were given.
 #[test]
-fn a_copy_keeps_names(rt: HostRuntime) -> Result<(), Fail> {
-    let copy = copy_of_nine(rt.alloc())?;
+fn a_copy_keeps_names(rt: HostRuntime) {
+    let copy = copy_of_nine(&rt, rt.alloc());
     assert_eq!(rt; (copy.version(), copy.name().as_str()), (9, "db"));
-    assert_eq!(rt; index_names(rt.alloc(), &copy, 1)?.as_str(), "/one/two");
-    Ok(())
+    assert_eq!(rt; index_names(&rt, rt.alloc(), &copy, 1).as_str(), "/one/two");
 }
 
 /// The indexes x, y and z, of which y came last.
-fn three_infos(alloc: Global) -> Result<IndexInfos, Fail> {
+fn three_infos(rt: &impl Abort, alloc: Global) -> IndexInfos {
     let mut infos = IndexInfos::new(alloc);
-    infos.push(index(alloc, "x")?)?;
-    infos.push(index(alloc, "z")?)?;
-    infos.insert_at(1, index(alloc, "y")?)?;
-    Ok(infos)
+    infos.push(index(rt, alloc, "x")).expect(rt, "memory");
+    infos.push(index(rt, alloc, "z")).expect(rt, "memory");
+    infos
+        .insert_at(1, index(rt, alloc, "y"))
+        .expect(rt, "memory");
+    infos
 }
 
 /// Lists of indexes and of schemas hold what was put in, in order.
 #[test]
-fn lists_keep_their_order(rt: HostRuntime) -> Result<(), Fail> {
-    let mut infos = three_infos(rt.alloc())?;
+fn lists_keep_their_order(rt: HostRuntime) {
+    let mut infos = three_infos(&rt, rt.alloc());
     assert!(rt; infos.len() == 3);
     let taken = infos.remove_at(0);
     assert_eq!(rt;
@@ -404,19 +399,17 @@ fn lists_keep_their_order(rt: HostRuntime) -> Result<(), Fail> {
         ),
         ("x", "z")
     );
-    Ok(())
 }
 
-fn one_schema(alloc: Global) -> Result<Schemas, Fail> {
+fn one_schema(rt: &impl Abort, alloc: Global) -> Schemas {
     let mut schemas = Schemas::new(alloc);
-    schemas.push(schema(alloc, &["a"])?)?;
-    Ok(schemas)
+    schemas.push(schema(rt, alloc, &["a"])).expect(rt, "memory");
+    schemas
 }
 
 /// A list of schemas holds what was put in.
 #[test]
-fn a_list_of_schemas_holds_one(rt: HostRuntime) -> Result<(), Fail> {
-    let schemas = one_schema(rt.alloc())?;
+fn a_list_of_schemas_holds_one(rt: HostRuntime) {
+    let schemas = one_schema(&rt, rt.alloc());
     assert!(rt; schemas.at(0).map_or(0, |s| s.len()) == 1 && schemas.at(1).is_none());
-    Ok(())
 }

@@ -1,12 +1,11 @@
 // Each pair of causes together, of which the standard's first wins (Indexed Database API 3.0, "createObjectStore", "deleteObjectStore",
 // "createIndex" and "deleteIndex"), and the schema that calls leave.
 use clone_values::{PathSpec, Text, Texts};
-use idb_base::{GREATEST_LENGTH, NoMemory};
+use idb_base::GREATEST_LENGTH;
 use idb_schema::{Schema, SchemaCall, StoreId, StoreInfos};
 use std::alloc::Global;
 use std::fmt::Write;
 use std::process::Abort;
-use std::test::Fail;
 use version_upgrade::*;
 
 /// What a key path is read from.
@@ -39,103 +38,105 @@ fn string(path: Path) -> &'static str {
     }
 }
 
-fn text(alloc: Global, s: &str) -> Result<Text, NoMemory> {
-    if s.len() > GREATEST_LENGTH {
-        return Err(NoMemory);
-    }
-    Text::copy_of(alloc, s)
+fn text(rt: &impl Abort, alloc: Global, s: &str) -> Text {
+    assert!(rt; s.len() <= GREATEST_LENGTH);
+    Text::copy_of(alloc, s).expect(rt, "memory")
 }
 
 /// The list of the string "a".
-fn list(alloc: Global) -> Result<PathSpec, NoMemory> {
+fn list(rt: &impl Abort, alloc: Global) -> PathSpec {
     let mut strings = Vec::new(alloc);
-    strings.push(text(alloc, "a")?)?;
-    Ok(PathSpec::Many(Texts::from_vec(strings)))
+    strings.push(text(rt, alloc, "a")).expect(rt, "memory");
+    PathSpec::Many(Texts::from_vec(strings))
 }
 
-fn spec(alloc: Global, path: Path) -> Result<PathSpec, NoMemory> {
+fn spec(rt: &impl Abort, alloc: Global, path: Path) -> PathSpec {
     match path {
-        Path::List => list(alloc),
-        Path::NoList => Ok(PathSpec::Many(Texts::new(alloc))),
-        other => Ok(PathSpec::One(text(alloc, string(other))?)),
+        Path::List => list(rt, alloc),
+        Path::NoList => PathSpec::Many(Texts::new(alloc)),
+        other => PathSpec::One(text(rt, alloc, string(other))),
     }
 }
 
-fn optional(alloc: Global, path: Path) -> Result<Option<PathSpec>, NoMemory> {
+fn optional(rt: &impl Abort, alloc: Global, path: Path) -> Option<PathSpec> {
     match path {
-        Path::Absent => Ok(None),
-        other => Ok(Some(spec(alloc, other)?)),
+        Path::Absent => None,
+        other => Some(spec(rt, alloc, other)),
     }
 }
 
-fn store_name(alloc: Global, stands: bool) -> Result<Text, NoMemory> {
-    Text::copy_of(alloc, if stands { "s" } else { "new" })
+fn store_name(rt: &impl Abort, alloc: Global, stands: bool) -> Text {
+    Text::copy_of(alloc, if stands { "s" } else { "new" }).expect(rt, "memory")
 }
 
-fn index_name(alloc: Global, stands: bool) -> Result<Text, NoMemory> {
-    Text::copy_of(alloc, if stands { "i" } else { "new" })
+fn index_name(rt: &impl Abort, alloc: Global, stands: bool) -> Text {
+    Text::copy_of(alloc, if stands { "i" } else { "new" }).expect(rt, "memory")
 }
 
 fn create_store(
+    rt: &impl Abort,
     alloc: Global,
     stands: bool,
     path: Path,
     auto: bool,
-) -> Result<SchemaCall, NoMemory> {
-    Ok(SchemaCall::CreateStore {
-        name: store_name(alloc, stands)?,
-        path: optional(alloc, path)?,
+) -> SchemaCall {
+    SchemaCall::CreateStore {
+        name: store_name(rt, alloc, stands),
+        path: optional(rt, alloc, path),
         auto,
-    })
+    }
 }
 
 fn create_index(
+    rt: &impl Abort,
     alloc: Global,
     store: StoreId,
     stands: bool,
     path: Path,
     multi: bool,
-) -> Result<SchemaCall, NoMemory> {
-    Ok(SchemaCall::CreateIndex {
+) -> SchemaCall {
+    SchemaCall::CreateIndex {
         store,
-        name: index_name(alloc, stands)?,
-        path: spec(alloc, path)?,
+        name: index_name(rt, alloc, stands),
+        path: spec(rt, alloc, path),
         unique: true,
         multi,
-    })
+    }
 }
 
-fn call(alloc: Global, store: StoreId, step: Step) -> Result<SchemaCall, NoMemory> {
+fn call(rt: &impl Abort, alloc: Global, store: StoreId, step: Step) -> SchemaCall {
     match step {
-        Step::CreateStore(stands, path, auto) => create_store(alloc, stands, path, auto),
-        Step::DropStore(stands) => Ok(SchemaCall::DropStore {
-            name: store_name(alloc, stands)?,
-        }),
-        Step::CreateIndex(stands, path, multi) => create_index(alloc, store, stands, path, multi),
-        Step::DropIndex(stands) => Ok(SchemaCall::DropIndex {
+        Step::CreateStore(stands, path, auto) => create_store(rt, alloc, stands, path, auto),
+        Step::DropStore(stands) => SchemaCall::DropStore {
+            name: store_name(rt, alloc, stands),
+        },
+        Step::CreateIndex(stands, path, multi) => create_index(
+            rt, alloc, store, stands, path, multi,
+        ),
+        Step::DropIndex(stands) => SchemaCall::DropIndex {
             store,
-            name: index_name(alloc, stands)?,
-        }),
+            name: index_name(rt, alloc, stands),
+        },
     }
 }
 
 /// Makes the call if the schema takes it, and writes what the check says.
 fn make(
+    rt: &impl Abort,
     alloc: Global,
     schema: &mut Schema,
     store: StoreId,
     step: Step,
     said: &mut String,
-) -> Result<(), NoMemory> {
-    let call = call(alloc, store, step)?;
+) {
+    let call = call(rt, alloc, store, step);
     match check_schema(schema, &call) {
         Ok(()) => {
             let _ = write!(said, "taken\n");
-            apply_schema(alloc, schema, call)
+            apply_schema(alloc, schema, call).expect(rt, "memory");
         }
         Err(name) => {
             let _ = write!(said, "{name}\n");
-            Ok(())
         }
     }
 }
@@ -154,40 +155,39 @@ fn names(schema: &Schema, said: &mut String) {
 }
 
 /// A schema with the store s.
-fn with_store(alloc: Global) -> Result<Schema, NoMemory> {
-    let name = text(alloc, "db")?;
-    let mut schema = Schema::new(alloc, name, 1, StoreInfos::new(alloc))?;
-    let create = create_store(alloc, true, Path::Absent, false)?;
+fn with_store(rt: &impl Abort, alloc: Global) -> Schema {
+    let name = text(rt, alloc, "db");
+    let mut schema = Schema::new(alloc, name, 1, StoreInfos::new(alloc)).expect(rt, "memory");
+    let create = create_store(rt, alloc, true, Path::Absent, false);
     if check_schema(&schema, &create).is_ok() {
-        apply_schema(alloc, &mut schema, create)?;
+        apply_schema(alloc, &mut schema, create).expect(rt, "memory");
     }
-    Ok(schema)
+    schema
 }
 
-fn id_of_store(alloc: Global, schema: &Schema) -> Result<StoreId, Fail> {
-    match schema.store_place(&store_name(alloc, true)?) {
-        Some(place) => Ok(schema.store_id(place)),
-        None => Err(Fail::new("no store")),
+fn id_of_store(rt: &impl Abort, alloc: Global, schema: &Schema) -> StoreId {
+    match schema.store_place(&store_name(rt, alloc, true)) {
+        Some(place) => schema.store_id(place),
+        None => panic!(rt; "no store"),
     }
 }
 
 /// A schema with the store s and its index i, and the id of s.
-fn begun(alloc: Global) -> Result<(Schema, StoreId), Fail> {
-    let mut schema = with_store(alloc)?;
-    let id = id_of_store(alloc, &schema)?;
+fn begun(rt: &impl Abort, alloc: Global) -> (Schema, StoreId) {
+    let mut schema = with_store(rt, alloc);
+    let id = id_of_store(rt, alloc, &schema);
     let mut said = String::new(alloc);
     let step = Step::CreateIndex(true, Path::Plain, false);
-    make(alloc, &mut schema, id, step, &mut said)?;
-    Ok((schema, id))
+    make(rt, alloc, &mut schema, id, step, &mut said);
+    (schema, id)
 }
 
-fn run(alloc: Global, steps: &[Step], said: &mut String) -> Result<(), Fail> {
-    let (mut schema, store) = begun(alloc)?;
+fn run(rt: &impl Abort, alloc: Global, steps: &[Step], said: &mut String) {
+    let (mut schema, store) = begun(rt, alloc);
     for step in steps {
-        make(alloc, &mut schema, store, *step, said)?;
+        make(rt, alloc, &mut schema, store, *step, said);
     }
     names(&schema, said);
-    Ok(())
 }
 
 const CAUSES: [Step; 19] = [
@@ -215,14 +215,13 @@ const CAUSES: [Step; 19] = [
 /// Every cause alone and each pair of one call: the rule's order is path, name, generator for a store, and name, path, list for an
 /// index. A refused call changes nothing.
 #[test]
-fn the_first_cause_wins(rt: HostRuntime) -> Result<(), Fail> {
+fn the_first_cause_wins(rt: HostRuntime) {
     let mut said = String::new(rt.alloc());
-    run(rt.alloc(), &CAUSES, &mut said)?;
+    run(&rt, rt.alloc(), &CAUSES, &mut said);
     assert_eq!(rt;
         said.as_str(),
         "SyntaxError\nSyntaxError\nConstraintError\nInvalidAccessError\nInvalidAccessError\nSyntaxError\nSyntaxError\nSyntaxError\nConstraintError\nSyntaxError\nNotFoundError\nConstraintError\nSyntaxError\nSyntaxError\nInvalidAccessError\nConstraintError\nConstraintError\nConstraintError\nNotFoundError\ns.i "
     );
-    Ok(())
 }
 
 const CALLS: [Step; 8] = [
@@ -237,12 +236,11 @@ const CALLS: [Step; 8] = [
 ];
 
 #[test]
-fn calls_take_effect_at_once(rt: HostRuntime) -> Result<(), Fail> {
+fn calls_take_effect_at_once(rt: HostRuntime) {
     let mut said = String::new(rt.alloc());
-    run(rt.alloc(), &CALLS, &mut said)?;
+    run(&rt, rt.alloc(), &CALLS, &mut said);
     assert_eq!(rt;
         said.as_str(),
         "taken\ntaken\nConstraintError\ntaken\nNotFoundError\ntaken\ntaken\ntaken\nnew s.new.i "
     );
-    Ok(())
 }

@@ -7,7 +7,7 @@ use idb_keys::{Durability, ErrorName, Mode};
 use report_lines::*;
 use serde_json::Value as Json;
 use std::alloc::Global;
-use std::test::Fail;
+use std::process;
 use value_json::value_from_json;
 
 /// A line, with a value as its JSON.
@@ -282,26 +282,24 @@ const SESSIONS: [Session; 6] = [
     },
 ];
 
-fn value(alloc: Global, text: &str) -> Result<Value, Fail> {
-    let document = Json::from_str(alloc, text)?;
-    Ok(value_from_json(alloc, &document)?)
+fn value(rt: &impl process::Abort, alloc: Global, text: &str) -> Value {
+    let document = Json::from_str(alloc, text).expect(rt, "a document");
+    value_from_json(alloc, &document).expect(rt, "a value")
 }
 
-fn name(alloc: Global, text: &str) -> Result<Text, Fail> {
-    if text.len() > GREATEST_LENGTH {
-        return Err(Fail::new("a long name"));
-    }
-    Ok(Text::copy_of(alloc, text)?)
+fn name(rt: &impl process::Abort, alloc: Global, text: &str) -> Text {
+    assert!(rt; text.len() <= GREATEST_LENGTH);
+    Text::copy_of(alloc, text).expect(rt, "memory")
 }
 
-fn line(alloc: Global, short: Short) -> Result<Line, Fail> {
-    Ok(match short {
+fn line(rt: &impl process::Abort, alloc: Global, short: Short) -> Line {
+    match short {
         Short::Refused(op, error) => Line::Refused {
-            op: name(alloc, op)?,
+            op: name(rt, alloc, op),
             error,
         },
         Short::Say(text) => Line::Say {
-            value: value(alloc, text)?,
+            value: value(rt, alloc, text),
         },
         Short::Throw => Line::Throw,
         Short::Upgrade(request, old_version, new_version, number) => {
@@ -347,7 +345,7 @@ fn line(alloc: Global, short: Short) -> Result<Line, Fail> {
         Short::Gave(number, request, text) => Line::RequestSuccess {
             number,
             request,
-            result: value(alloc, text)?,
+            result: value(rt, alloc, text),
         },
         Short::RequestError(number, request, error) => Line::RequestError {
             number,
@@ -360,82 +358,84 @@ fn line(alloc: Global, short: Short) -> Result<Line, Fail> {
             error,
             doubt,
         },
-    })
+    }
 }
 
-fn lines(alloc: Global, all: &[Short]) -> Result<ClientLines, Fail> {
+fn lines(rt: &impl process::Abort, alloc: Global, all: &[Short]) -> ClientLines {
     let mut lines = Lines::new(alloc);
     for short in all {
-        lines.push(line(alloc, *short)?)?;
+        lines.push(line(rt, alloc, *short)).expect(rt, "memory");
     }
     let mut clients = ClientLines::new(alloc);
-    clients.push(lines)?;
-    Ok(clients)
+    clients.push(lines).expect(rt, "memory");
+    clients
 }
 
-fn opening(alloc: Global, all: &[(&'static str, u64)]) -> Result<Opening, Fail> {
+fn opening(rt: &impl process::Abort, alloc: Global, all: &[(&'static str, u64)]) -> Opening {
     let mut opening = Opening::new(alloc);
     for (text, version) in all {
-        opening.push(Has {
-            name: name(alloc, *text)?,
-            version: *version,
-        })?;
+        opening
+            .push(Has {
+                name: name(rt, alloc, *text),
+                version: *version,
+            })
+            .expect(rt, "memory");
     }
-    Ok(opening)
+    opening
 }
 
-fn report(alloc: Global, session: &Session) -> Result<Report, Fail> {
-    Ok(Report {
+fn report(rt: &impl process::Abort, alloc: Global, session: &Session) -> Report {
+    Report {
         session: session.number,
-        opening: opening(alloc, session.opening)?,
-        clients: lines(alloc, session.lines)?,
-        order: Tokens::from_vec(session.order.to_vec(alloc)?),
-        finish: Numbers::from_vec(session.finish.to_vec(alloc)?),
-        commits: Numbers::from_vec(session.commits.to_vec(alloc)?),
-        pending: PendingLines::from_vec(session.pending.to_vec(alloc)?),
+        opening: opening(rt, alloc, session.opening),
+        clients: lines(rt, alloc, session.lines),
+        order: Tokens::from_vec(session.order.to_vec(alloc).expect(rt, "memory")),
+        finish: Numbers::from_vec(session.finish.to_vec(alloc).expect(rt, "memory")),
+        commits: Numbers::from_vec(session.commits.to_vec(alloc).expect(rt, "memory")),
+        pending: PendingLines::from_vec(session.pending.to_vec(alloc).expect(rt, "memory")),
         end: session.end,
-    })
+    }
 }
 
-fn shown(alloc: Global, report: &Report) -> Result<String, Fail> {
-    Ok(String::from_utf8(report_text(alloc, report)?)?)
+fn shown(rt: &impl process::Abort, alloc: Global, report: &Report) -> String {
+    String::from_utf8(report_text(alloc, report).expect(rt, "memory")).expect(rt, "a text")
 }
 
 /// Says that the text is the one that is wanted, or what it is.
-fn compared(alloc: Global, session: &Session, said: &mut String) -> Result<(), Fail> {
-    let text = shown(alloc, &report(alloc, session)?)?;
+fn compared(rt: &impl process::Abort, alloc: Global, session: &Session, said: &mut String) {
+    let text = shown(rt, alloc, &report(rt, alloc, session));
     if text.as_str() == session.text {
-        said.push_str("same ")?;
+        said.push_str("same ").expect(rt, "memory");
     } else {
-        said.push_str(text.as_str())?;
+        said.push_str(text.as_str()).expect(rt, "memory");
     }
-    Ok(())
 }
 
 #[test]
-fn worked_sessions_have_their_texts(rt: HostRuntime) -> Result<(), Fail> {
+fn worked_sessions_have_their_texts(rt: HostRuntime) {
     let mut said = String::new(rt.alloc());
     for session in &SESSIONS {
-        compared(rt.alloc(), session, &mut said)?;
+        compared(&rt, rt.alloc(), session, &mut said);
     }
     assert_eq!(rt; said.as_str(), "same same same same same same ");
-    Ok(())
 }
 
 /// A client without a line, and one with so many.
-fn many(alloc: Global, count: u32) -> Result<Report, Fail> {
+fn many(rt: &impl process::Abort, alloc: Global, count: u32) -> Report {
     let mut lines = Lines::new(alloc);
     for request in 0..count {
-        lines.push(Line::RequestSuccess {
-            number: 2,
-            request,
-            result: Value::Null,
-        })?;
+        lines
+            .push(Line::RequestSuccess {
+                number: 2,
+                request,
+                result: Value::Null,
+            })
+            .expect(rt, "memory");
     }
     let mut clients = ClientLines::new(alloc);
-    clients.push(Lines::new(alloc))?;
-    clients.push(lines)?;
-    Ok(Report {
+    clients.push(Lines::new(alloc)).expect(rt, "memory");
+    clients.push(lines).expect(rt, "memory");
+    Report {
         session: 1,
         opening: Opening::new(alloc),
         clients,
@@ -444,23 +444,22 @@ fn many(alloc: Global, count: u32) -> Result<Report, Fail> {
         commits: Numbers::new(alloc),
         pending: PendingLines::new(alloc),
         end: ReportEnd::Drop,
-    })
+    }
 }
 
 /// What stands from a place on.
-fn from_place(alloc: Global, text: &str, place: usize) -> Result<String, Fail> {
-    Ok(String::from_str(alloc, text.get(place..).ok_or("shorter")?)?)
+fn from_place(rt: &impl process::Abort, alloc: Global, text: &str, place: usize) -> String {
+    String::from_str(alloc, text.get(place..).expect(rt, "a longer text")).expect(rt, "memory")
 }
 
 /// A line has 23 bytes and the digits of its request. The numbers below 100,000 have 10 + 180 + 2,700 + 36,000 + 450,000
 /// digits. What comes before the lines has 36 bytes, and the last two lines without their first six have 50.
 #[test]
-fn a_long_report_is_printed(rt: HostRuntime) -> Result<(), Fail> {
-    let text = shown(rt.alloc(), &many(rt.alloc(), 100_000)?)?;
+fn a_long_report_is_printed(rt: HostRuntime) {
+    let text = shown(&rt, rt.alloc(), &many(&rt, rt.alloc(), 100_000));
     let place = 36 + 100_000 * 23 + 488_890 - 50;
     assert_eq!(rt;
-        from_place(rt.alloc(), text.as_str(), place)?.as_str(),
+        from_place(&rt, rt.alloc(), text.as_str(), place).as_str(),
         "eq 99998 success null\ntx 2 req 99999 success null\norder\nfinish\ncommit\nend drop\n"
     );
-    Ok(())
 }

@@ -1,6 +1,6 @@
 // Bodies and handlers of small scripts.
 use clone_values::{Text, Texts, Value};
-use idb_base::{GREATEST_LENGTH, Listed, NoMemory};
+use idb_base::{GREATEST_LENGTH, Listed};
 use idb_calls::Event;
 use idb_keys::{ErrorName, Mode};
 use idb_schema::{Schema, StoreInfos};
@@ -12,8 +12,8 @@ use script_runs::{Env, Note, Notes, RunEnd};
 use script_statements::{Block, Client, Stmt};
 use serde_json::Value as Json;
 use std::alloc::Global;
+use std::process;
 use std::sync::Arc;
-use std::test::Fail;
 use value_json::push_value_text;
 
 /// A statement; expressions are documents.
@@ -109,118 +109,119 @@ const OF_EVENTS: [&str; 7] = [
     "tx 5 req 3 success 7; refused advance TypeError; refused advance InvalidStateError; returned",
 ];
 
-fn expr(alloc: Global, text: &str) -> Result<Expr, Fail> {
-    let document = Json::from_str(alloc, text)?;
+fn expr(rt: &impl process::Abort, alloc: Global, text: &str) -> Expr {
+    let document = Json::from_str(alloc, text).expect(rt, "a document");
     match expr_from_json(alloc, &document) {
-        Ok(expr) => Ok(expr),
-        Err(_) => Err(Fail::new("no expression")),
+        Ok(expr) => expr,
+        Err(_) => panic!(rt; "no expression"),
     }
 }
 
-fn key(alloc: Global, given: &Option<&'static str>) -> Result<Option<Expr>, Fail> {
+fn key(rt: &impl process::Abort, alloc: Global, given: &Option<&'static str>) -> Option<Expr> {
     match given {
-        Some(text) => Ok(Some(expr(alloc, text)?)),
-        None => Ok(None),
+        Some(text) => Some(expr(rt, alloc, text)),
+        None => None,
     }
 }
 
-fn text(alloc: Global, s: &str) -> Result<Text, Fail> {
-    if s.len() > GREATEST_LENGTH {
-        return Err(Fail::new("long"));
-    }
-    Ok(Text::copy_of(alloc, s)?)
+fn text(rt: &impl process::Abort, alloc: Global, s: &str) -> Text {
+    assert!(rt; s.len() <= GREATEST_LENGTH);
+    Text::copy_of(alloc, s).expect(rt, "memory")
 }
 
-fn statement(alloc: Global, row: &Row) -> Result<Stmt, Fail> {
+fn statement(rt: &impl process::Abort, alloc: Global, row: &Row) -> Stmt {
     match row {
-        Row::Say(value) => Ok(Stmt::Say {
-            value: expr(alloc, value)?,
-        }),
-        Row::Throw => Ok(Stmt::Throw),
-        Row::Post(block) => Ok(Stmt::Post { block: *block }),
-        Row::Prevent => Ok(Stmt::Prevent),
-        Row::Commit => Ok(Stmt::Commit),
-        Row::Abort => Ok(Stmt::Abort),
-        Row::Close => Ok(Stmt::Close { conn: None }),
-        Row::Create(store) => Ok(Stmt::CreateObjectStore {
-            store: text(alloc, store)?,
+        Row::Say(value) => Stmt::Say {
+            value: expr(rt, alloc, value),
+        },
+        Row::Throw => Stmt::Throw,
+        Row::Post(block) => Stmt::Post { block: *block },
+        Row::Prevent => Stmt::Prevent,
+        Row::Commit => Stmt::Commit,
+        Row::Abort => Stmt::Abort,
+        Row::Close => Stmt::Close { conn: None },
+        Row::Create(store) => Stmt::CreateObjectStore {
+            store: text(rt, alloc, store),
             key_path: None,
             auto_increment: None,
-        }),
-        Row::Put(store, given) => Ok(Stmt::Put {
-            store: text(alloc, store)?,
-            value: expr(alloc, "0")?,
-            key: key(alloc, given)?,
+        },
+        Row::Put(store, given) => Stmt::Put {
+            store: text(rt, alloc, store),
+            value: expr(rt, alloc, "0"),
+            key: key(rt, alloc, given),
             success: None,
             error: None,
-        }),
-        Row::Get(store, query) => Ok(Stmt::Get {
-            store: text(alloc, store)?,
+        },
+        Row::Get(store, query) => Stmt::Get {
+            store: text(rt, alloc, store),
             index: None,
-            query: Some(expr(alloc, query)?),
+            query: Some(expr(rt, alloc, query)),
             range: None,
             success: None,
             error: None,
-        }),
-        Row::Open(store) => Ok(Stmt::OpenCursor {
-            store: text(alloc, store)?,
+        },
+        Row::Open(store) => Stmt::OpenCursor {
+            store: text(rt, alloc, store),
             index: None,
             query: None,
             range: None,
             direction: None,
             success: None,
             error: None,
-        }),
-        Row::Advance(count) => Ok(Stmt::Advance {
-            count: expr(alloc, count)?,
-        }),
+        },
+        Row::Advance(count) => Stmt::Advance {
+            count: expr(rt, alloc, count),
+        },
     }
 }
 
-fn client(alloc: Global, rows: &[Row]) -> Result<Arc<Client, Global>, Fail> {
+fn client(rt: &impl process::Abort, alloc: Global, rows: &[Row]) -> Arc<Client, Global> {
     let mut body = Listed::new(alloc);
     for row in rows {
-        body.push(statement(alloc, row)?)?;
+        body.push(statement(rt, alloc, row)).expect(rt, "memory");
     }
     let mut blocks = Listed::new(alloc);
-    blocks.push(Block {
-        name: text(alloc, "main")?,
-        body,
-    })?;
-    Ok(Arc::new(alloc, Client { blocks, main: 0 })?)
+    blocks
+        .push(Block {
+            name: text(rt, alloc, "main"),
+            body,
+        })
+        .expect(rt, "memory");
+    Arc::new(alloc, Client { blocks, main: 0 }).expect(rt, "memory")
 }
 
-fn front(alloc: Global) -> Result<TxFront<ScriptHandler>, Fail> {
-    let schema = Schema::new(alloc, text(alloc, "d")?, 1, StoreInfos::new(alloc))?;
-    Ok(TxFront::new(alloc, Mode::VersionChange, schema, Texts::new(alloc)))
+fn front(rt: &impl process::Abort, alloc: Global) -> TxFront<ScriptHandler> {
+    let schema = Schema::new(alloc, text(rt, alloc, "d"), 1, StoreInfos::new(alloc)).expect(
+        rt, "memory",
+    );
+    TxFront::new(alloc, Mode::VersionChange, schema, Texts::new(alloc))
 }
 
-fn put_text(out: &mut Vec<u8>, text: &str) -> Result<(), NoMemory> {
-    out.extend_from_slice(text.as_bytes())?;
-    Ok(())
+fn put_text(rt: &impl process::Abort, out: &mut Vec<u8>, text: &str) {
+    out.extend_from_slice(text.as_bytes()).expect(rt, "memory");
 }
 
 /// Writes a small number.
-fn put_number(alloc: Global, out: &mut Vec<u8>, number: u64) -> Result<(), Fail> {
+fn put_number(rt: &impl process::Abort, alloc: Global, out: &mut Vec<u8>, number: u64) {
     match i64::try_from(number) {
-        Ok(number) => Ok(push_value_text(alloc, out, &Value::Int(number))?),
-        Err(_) => Err(Fail::new("large")),
+        Ok(number) => push_value_text(alloc, out, &Value::Int(number)).expect(rt, "memory"),
+        Err(_) => panic!(rt; "large"),
     }
 }
 
 /// Writes a note.
-fn show(alloc: Global, out: &mut Vec<u8>, note: &Note) -> Result<(), Fail> {
+fn show(rt: &impl process::Abort, alloc: Global, out: &mut Vec<u8>, note: &Note) {
     match note {
         Note::Line(Line::Say { value }) => {
-            put_text(out, "say ")?;
-            push_value_text(alloc, out, value)?;
+            put_text(rt, out, "say ");
+            push_value_text(alloc, out, value).expect(rt, "memory");
         }
-        Note::Line(Line::Throw) => put_text(out, "throw")?,
+        Note::Line(Line::Throw) => put_text(rt, out, "throw"),
         Note::Line(Line::Refused { op, error }) => {
-            put_text(out, "refused ")?;
-            put_text(out, op.as_str())?;
-            put_text(out, " ")?;
-            put_text(out, error.name())?;
+            put_text(rt, out, "refused ");
+            put_text(rt, out, op.as_str());
+            put_text(rt, out, " ");
+            put_text(rt, out, error.name());
         }
         Note::Line(
             Line::RequestSuccess {
@@ -229,9 +230,9 @@ fn show(alloc: Global, out: &mut Vec<u8>, note: &Note) -> Result<(), Fail> {
                 result,
             },
         ) => {
-            show_request(alloc, out, *number, *request)?;
-            put_text(out, " success ")?;
-            push_value_text(alloc, out, result)?;
+            show_request(rt, alloc, out, *number, *request);
+            put_text(rt, out, " success ");
+            push_value_text(alloc, out, result).expect(rt, "memory");
         }
         Note::Line(
             Line::RequestError {
@@ -240,73 +241,76 @@ fn show(alloc: Global, out: &mut Vec<u8>, note: &Note) -> Result<(), Fail> {
                 error,
             },
         ) => {
-            show_request(alloc, out, *number, *request)?;
-            put_text(out, " error ")?;
-            put_text(out, error.name())?;
+            show_request(rt, alloc, out, *number, *request);
+            put_text(rt, out, " error ");
+            put_text(rt, out, error.name());
         }
-        Note::Line(_) => put_text(out, "line")?,
+        Note::Line(_) => put_text(rt, out, "line"),
         Note::Posted(task) => {
-            put_text(out, "post ")?;
-            put_number(alloc, out, task.block as u64)?;
+            put_text(rt, out, "post ");
+            put_number(rt, alloc, out, task.block as u64);
         }
     }
-    put_text(out, "; ")?;
-    Ok(())
+    put_text(rt, out, "; ");
 }
 
-fn show_request(alloc: Global, out: &mut Vec<u8>, number: u64, request: u32) -> Result<(), Fail> {
-    put_text(out, "tx ")?;
-    put_number(alloc, out, number)?;
-    put_text(out, " req ")?;
-    put_number(alloc, out, u64::from(request))?;
-    Ok(())
+fn show_request(
+    rt: &impl process::Abort,
+    alloc: Global,
+    out: &mut Vec<u8>,
+    number: u64,
+    request: u32,
+) {
+    put_text(rt, out, "tx ");
+    put_number(rt, alloc, out, number);
+    put_text(rt, out, " req ");
+    put_number(rt, alloc, out, u64::from(request));
 }
 
-fn show_all(alloc: Global, out: &mut Vec<u8>, notes: &Notes) -> Result<(), Fail> {
+fn show_all(rt: &impl process::Abort, alloc: Global, out: &mut Vec<u8>, notes: &Notes) {
     for note in notes.as_slice() {
-        show(alloc, out, note)?;
+        show(rt, alloc, out, note);
     }
-    Ok(())
 }
 
 /// Runs a body on a new front, and writes its notes.
-fn body(alloc: Global, out: &mut Vec<u8>, rows: &[Row]) -> Result<(), Fail> {
-    let client = client(alloc, rows)?;
-    let mut front = front(alloc)?;
+fn body(rt: &impl process::Abort, alloc: Global, out: &mut Vec<u8>, rows: &[Row]) {
+    let client = client(rt, alloc, rows);
+    let mut front = front(rt, alloc);
     let mut notes = Notes::new(alloc);
     let mut env = Env::new(alloc);
     env.cursor = Some(1);
-    let end = run_body(alloc, &client, 5, 0, &env, &mut front, &mut notes)?;
-    show_all(alloc, out, &notes)?;
+    let end = run_body(alloc, &client, 5, 0, &env, &mut front, &mut notes).expect(rt, "memory");
+    show_all(rt, alloc, out, &notes);
     if let RunEnd::Threw = end {
-        put_text(out, "threw")?;
+        put_text(rt, out, "threw");
     }
-    put_text(out, "\n")?;
-    Ok(())
+    put_text(rt, out, "\n");
 }
 
 /// Tells a handler its event, and writes its notes and how it ended.
 fn event(
+    rt: &impl process::Abort,
     alloc: Global,
     out: &mut Vec<u8>,
     succeeds: bool,
     opens: bool,
     rows: &[Row],
-) -> Result<(), Fail> {
+) {
     let mut handler = ScriptHandler {
         alloc,
-        client: client(alloc, rows)?,
+        client: client(rt, alloc, rows),
         number: 5,
         success: Some(0),
         error: Some(0),
         opens,
         env: Env::new(alloc),
     };
-    let mut front = front(alloc)?;
+    let mut front = front(rt, alloc);
     let mut notes = Notes::new(alloc);
     let before = Env::new(alloc);
-    let cursors = client(alloc, &CURSORS)?;
-    run_body(alloc, &cursors, 5, 0, &before, &mut front, &mut notes)?;
+    let cursors = client(rt, alloc, &CURSORS);
+    run_body(alloc, &cursors, 5, 0, &before, &mut front, &mut notes).expect(rt, "memory");
     let told = if succeeds {
         Event::Success {
             request: 3,
@@ -319,8 +323,9 @@ fn event(
         }
     };
     let end = handler.on_event(&mut front, &told, &mut notes);
-    show_all(alloc, out, &notes)?;
+    show_all(rt, alloc, out, &notes);
     put_text(
+        rt,
         out,
         match end {
             HandlerEnd::Returned { prevented: false } => "returned\n",
@@ -328,36 +333,33 @@ fn event(
             HandlerEnd::Threw => "threw\n",
             HandlerEnd::NoMemory => "no memory\n",
         },
-    )?;
-    Ok(())
+    );
 }
 
 #[test]
-fn bodies_write_what_the_rules_say(rt: HostRuntime) -> Result<(), Fail> {
+fn bodies_write_what_the_rules_say(rt: HostRuntime) {
     let mut written = Vec::new(rt.alloc());
     let mut wanted = Vec::new(rt.alloc());
     for (place, rows) in BODIES.iter().enumerate() {
-        body(rt.alloc(), &mut written, rows)?;
+        body(&rt, rt.alloc(), &mut written, rows);
         if let Some(text) = OF_BODIES.get(place) {
-            put_text(&mut wanted, text)?;
+            put_text(&rt, &mut wanted, text);
         }
-        put_text(&mut wanted, "\n")?;
+        put_text(&rt, &mut wanted, "\n");
     }
     assert!(rt; written.as_slice() == wanted.as_slice());
-    Ok(())
 }
 
 #[test]
-fn handlers_write_what_the_rules_say(rt: HostRuntime) -> Result<(), Fail> {
+fn handlers_write_what_the_rules_say(rt: HostRuntime) {
     let mut written = Vec::new(rt.alloc());
     let mut wanted = Vec::new(rt.alloc());
     for (place, row) in EVENTS.iter().enumerate() {
-        event(rt.alloc(), &mut written, row.0, row.1, row.2)?;
+        event(&rt, rt.alloc(), &mut written, row.0, row.1, row.2);
         if let Some(text) = OF_EVENTS.get(place) {
-            put_text(&mut wanted, text)?;
+            put_text(&rt, &mut wanted, text);
         }
-        put_text(&mut wanted, "\n")?;
+        put_text(&rt, &mut wanted, "\n");
     }
     assert!(rt; written.as_slice() == wanted.as_slice());
-    Ok(())
 }

@@ -2,9 +2,9 @@
 use script_exprs::ExprForm;
 use script_reading::{ScriptError, read_script};
 use script_statements::Stmt;
-use std::alloc::{AllocError, Global};
+use std::alloc::Global;
 use std::fmt::Write;
-use std::test::Fail;
+use std::process::Abort;
 
 /// Reads a script, and writes the place of its fault, or `ok`.
 fn read(alloc: Global, said: &mut String, script: &str) {
@@ -23,23 +23,23 @@ fn read(alloc: Global, said: &mut String, script: &str) {
 
 /// Reads a script around a text.
 fn read_within(
+    rt: &impl Abort,
     alloc: Global,
     said: &mut String,
     before: &str,
     inner: &str,
     behind: &str,
-) -> Result<(), AllocError> {
+) {
     let mut script = String::new(alloc);
-    script.push_str(before)?;
-    script.push_str(inner)?;
-    script.push_str(behind)?;
+    script.push_str(before).expect(rt, "memory");
+    script.push_str(inner).expect(rt, "memory");
+    script.push_str(behind).expect(rt, "memory");
     read(alloc, said, script.as_str());
-    Ok(())
 }
 
 /// Scripts, sessions, clients and blocks.
 #[test]
-fn outlines_have_their_places(rt: HostRuntime) -> Result<(), Fail> {
+fn outlines_have_their_places(rt: HostRuntime) {
     let rows = [
         "",
         r#"{"sessions":["#,
@@ -89,7 +89,6 @@ fn outlines_have_their_places(rt: HostRuntime) -> Result<(), Fail> {
         said.as_str()
             == "0 0 1 1 2 2 2 2 3 3 4 5 5 5 6 6 6 7 7 ok 8 8 8 10 10 8 6 8 ok ok 8 8 8 11 13 2 ok ok 0 "
     );
-    Ok(())
 }
 
 const BEFORE: &str = r#"{"sessions":[{"clients":[{"blocks":{"b":[],"main":[{"op":"throw"},"#;
@@ -98,7 +97,7 @@ const BEHIND: &str = "]}}]}]}";
 
 /// Each statement with and without its faults; the statement is node 11.
 #[test]
-fn statements_have_their_places(rt: HostRuntime) -> Result<(), Fail> {
+fn statements_have_their_places(rt: HostRuntime) {
     let rows = [
         r#"{"op":"open","db":"d"}"#,
         r#"{"op":"open","db":"d","version":2,"upgrade":"b","blocked":"b","success":"main","error":"b","versionchange":"b","closed":"b"}"#,
@@ -143,18 +142,17 @@ fn statements_have_their_places(rt: HostRuntime) -> Result<(), Fail> {
     ];
     let mut said = String::new(rt.alloc());
     for row in &rows {
-        read_within(rt.alloc(), &mut said, BEFORE, row, BEHIND)?;
+        read_within(&rt, rt.alloc(), &mut said, BEFORE, row, BEHIND);
     }
     assert!(rt;
         said.as_str()
             == "ok ok 11 14 14 14 12 11 11 11 ok ok ok 12 12 ok ok ok 11 15 15 13 12 13 ok 12 ok 14 14 ok 12 ok 12 ok ok 13 ok 11 12 12 "
     );
-    Ok(())
 }
 
 /// Requests, cursors, transactions and schemas.
 #[test]
-fn requests_have_their_places(rt: HostRuntime) -> Result<(), Fail> {
+fn requests_have_their_places(rt: HostRuntime) {
     let rows = [
         r#"{"op":"get","store":"s","index":"i","query":1,"success":"b","error":"b"}"#,
         r#"{"op":"get","store":"s","range":{"lower":1,"upper":2,"lowerOpen":true,"upperOpen":false}}"#,
@@ -199,13 +197,12 @@ fn requests_have_their_places(rt: HostRuntime) -> Result<(), Fail> {
     ];
     let mut said = String::new(rt.alloc());
     for row in &rows {
-        read_within(rt.alloc(), &mut said, BEFORE, row, BEHIND)?;
+        read_within(&rt, rt.alloc(), &mut said, BEFORE, row, BEHIND);
     }
     assert!(rt;
         said.as_str()
             == "ok ok 11 13 13 13 13 ok 13 12 12 13 ok 12 ok ok 13 ok 11 11 12 ok ok ok ok ok ok ok ok 12 ok ok ok 12 12 11 ok 11 16 11 "
     );
-    Ok(())
 }
 
 const SAYS: &str = r#"{"sessions":[{"clients":[{"blocks":{"main":[{"op":"say","value":"#;
@@ -214,7 +211,7 @@ const MORE: &str = "},3]}}]}]}";
 
 /// Each form of expression with and without its faults, before a fault further on.
 #[test]
-fn expressions_have_their_places(rt: HostRuntime) -> Result<(), Fail> {
+fn expressions_have_their_places(rt: HostRuntime) {
     let rows = [
         "null",
         "9007199254740992",
@@ -264,38 +261,37 @@ fn expressions_have_their_places(rt: HostRuntime) -> Result<(), Fail> {
     ];
     let mut said = String::new(rt.alloc());
     for row in &rows {
-        read_within(rt.alloc(), &mut said, SAYS, row, MORE)?;
+        read_within(&rt, rt.alloc(), &mut said, SAYS, row, MORE);
     }
     assert!(rt;
         said.as_str()
             == "11 11 10 11 10 10 10 16 10 14 10 10 10 10 12 10 15 21 10 10 10 10 19 10 10 10 19 10 16 12 10 10 14 10 10 10 15 15 10 10 10 16 10 14 10 "
     );
-    Ok(())
 }
 
 /// Reads a script with a text so many times in it.
 fn read_repeated(
+    rt: &impl Abort,
     alloc: Global,
     said: &mut String,
     texts: (&str, &str, &str, &str),
     times: i64,
-) -> Result<(), AllocError> {
+) {
     let (before, opening, closing, behind) = texts;
-    let mut script = String::from_str(alloc, before)?;
+    let mut script = String::from_str(alloc, before).expect(rt, "memory");
     for _ in 0..times {
-        script.push_str(opening)?;
+        script.push_str(opening).expect(rt, "memory");
     }
     for _ in 0..times {
-        script.push_str(closing)?;
+        script.push_str(closing).expect(rt, "memory");
     }
-    script.push_str(behind)?;
+    script.push_str(behind).expect(rt, "memory");
     read(alloc, said, script.as_str());
-    Ok(())
 }
 
 /// 16 sessions and 17, 64 clients and 65, a document nested 127 deep and 128, and many statements.
 #[test]
-fn limits_hold(rt: HostRuntime) -> Result<(), Fail> {
+fn limits_hold(rt: HostRuntime) {
     let sessions = (
         r#"{"sessions":["#,
         r#"{"clients":[{"blocks":{"main":[]}}]},"#,
@@ -331,10 +327,9 @@ fn limits_hold(rt: HostRuntime) -> Result<(), Fail> {
     ];
     let mut said = String::new(rt.alloc());
     for (texts, times) in &rows {
-        read_repeated(rt.alloc(), &mut said, *texts, *times)?;
+        read_repeated(&rt, rt.alloc(), &mut said, *texts, *times);
     }
     assert!(rt; said.as_str() == "ok 2 ok 4 ok 0 200008 ");
-    Ok(())
 }
 
 const SHOP: &str = r#"{"sessions":[{"clients":[{"blocks":{
@@ -390,8 +385,8 @@ fn show(said: &mut String, stmt: &Stmt) {
 
 /// What a script says is what is read.
 #[test]
-fn a_script_is_read_whole(rt: HostRuntime) -> Result<(), Fail> {
-    let script = read_script(rt.alloc(), SHOP.as_bytes())?;
+fn a_script_is_read_whole(rt: HostRuntime) {
+    let script = read_script(rt.alloc(), SHOP.as_bytes()).expect(&rt, "a script");
     let mut said = String::new(rt.alloc());
     for session in script.sessions.as_slice() {
         for client in session.clients.as_slice() {
@@ -404,5 +399,4 @@ fn a_script_is_read_whole(rt: HostRuntime) -> Result<(), Fail> {
         }
     }
     assert!(rt; said.as_str() == "main:open d true true;up:create s false;put s literal var x;");
-    Ok(())
 }

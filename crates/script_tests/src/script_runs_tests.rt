@@ -10,7 +10,7 @@ use script_runs::*;
 use script_statements::{Block, Client, Stmt};
 use serde_json::Value as Json;
 use std::alloc::Global;
-use std::test::Fail;
+use std::process::Abort;
 use value_json::push_value_text;
 
 /// A world in which nothing can be done.
@@ -165,102 +165,108 @@ const WRITTEN: [&str; 13] = [
     "say 99997; throw; threw",
 ];
 
-fn expr(alloc: Global, text: &str) -> Result<Expr, Fail> {
-    let document = Json::from_str(alloc, text)?;
+fn expr(rt: &impl Abort, alloc: Global, text: &str) -> Expr {
+    let document = Json::from_str(alloc, text).expect(rt, "a document");
     match expr_from_json(alloc, &document) {
-        Ok(expr) => Ok(expr),
-        Err(_) => Err(Fail::new("no expression")),
+        Ok(expr) => expr,
+        Err(_) => panic!(rt; "no expression"),
     }
 }
 
-fn text(alloc: Global, s: &str) -> Result<Text, Fail> {
-    if s.len() > GREATEST_LENGTH {
-        return Err(Fail::new("long"));
-    }
-    Ok(Text::copy_of(alloc, s)?)
+fn text(rt: &impl Abort, alloc: Global, s: &str) -> Text {
+    assert!(rt; s.len() <= GREATEST_LENGTH);
+    Text::copy_of(alloc, s).expect(rt, "memory")
 }
 
-fn statement(alloc: Global, row: &Row) -> Result<Stmt, Fail> {
+fn statement(rt: &impl Abort, alloc: Global, row: &Row) -> Stmt {
     match row {
-        Row::Say(value) => Ok(Stmt::Say {
-            value: expr(alloc, value)?,
-        }),
-        Row::Let(name, value) => Ok(Stmt::Let {
-            name: text(alloc, name)?,
-            value: expr(alloc, value)?,
-        }),
-        Row::Throw => Ok(Stmt::Throw),
-        Row::Post(block) => Ok(Stmt::Post { block: *block }),
-        Row::Repeat(times, block) => Ok(Stmt::Repeat {
+        Row::Say(value) => Stmt::Say {
+            value: expr(rt, alloc, value),
+        },
+        Row::Let(name, value) => Stmt::Let {
+            name: text(rt, alloc, name),
+            value: expr(rt, alloc, value),
+        },
+        Row::Throw => Stmt::Throw,
+        Row::Post(block) => Stmt::Post { block: *block },
+        Row::Repeat(times, block) => Stmt::Repeat {
             times: *times,
             block: *block,
-        }),
-        Row::If(test, then, otherwise) => Ok(Stmt::If {
-            test: expr(alloc, test)?,
+        },
+        Row::If(test, then, otherwise) => Stmt::If {
+            test: expr(rt, alloc, test),
             then: *then,
             otherwise: *otherwise,
-        }),
-        Row::Commit => Ok(Stmt::Commit),
-        Row::Clear => Ok(Stmt::Clear {
-            store: text(alloc, "s")?,
+        },
+        Row::Commit => Stmt::Commit,
+        Row::Clear => Stmt::Clear {
+            store: text(rt, alloc, "s"),
             success: None,
             error: None,
-        }),
+        },
     }
 }
 
-fn client(alloc: Global, script: &[&[Row]]) -> Result<Client, Fail> {
+fn client(rt: &impl Abort, alloc: Global, script: &[&[Row]]) -> Client {
     let mut blocks = Listed::new(alloc);
     for rows in script {
         let mut body = Listed::new(alloc);
         for row in *rows {
-            body.push(statement(alloc, row)?)?;
+            body.push(statement(rt, alloc, row)).expect(rt, "memory");
         }
-        blocks.push(Block {
-            name: text(alloc, "")?,
-            body,
-        })?;
+        blocks
+            .push(Block {
+                name: text(rt, alloc, ""),
+                body,
+            })
+            .expect(rt, "memory");
     }
-    Ok(Client { blocks, main: 0 })
+    Client { blocks, main: 0 }
 }
 
 /// Writes a small number.
-fn put_number(alloc: Global, out: &mut Vec<u8>, number: u64) -> Result<(), Fail> {
+fn put_number(rt: &impl Abort, alloc: Global, out: &mut Vec<u8>, number: u64) {
     match i64::try_from(number) {
-        Ok(number) => Ok(push_value_text(alloc, out, &Value::Int(number))?),
-        Err(_) => Err(Fail::new("large")),
+        Ok(number) => push_value_text(alloc, out, &Value::Int(number)).expect(rt, "memory"),
+        Err(_) => panic!(rt; "large"),
     }
 }
 
 /// Writes a note.
-fn show(alloc: Global, out: &mut Vec<u8>, note: &Note) -> Result<(), Fail> {
+fn show(rt: &impl Abort, alloc: Global, out: &mut Vec<u8>, note: &Note) {
     match note {
         Note::Line(Line::Say { value }) => {
-            out.extend_from_slice(b"say ")?;
-            push_value_text(alloc, out, value)?;
+            out.extend_from_slice(b"say ").expect(rt, "memory");
+            push_value_text(alloc, out, value).expect(rt, "memory");
         }
-        Note::Line(Line::Throw) => out.extend_from_slice(b"throw")?,
+        Note::Line(Line::Throw) => out.extend_from_slice(b"throw").expect(rt, "memory"),
         Note::Line(Line::Refused { op, error }) => {
-            out.extend_from_slice(b"refused ")?;
-            out.extend_from_slice(op.as_str().as_bytes())?;
-            out.push(b' ')?;
-            out.extend_from_slice(error.name().as_bytes())?;
+            out.extend_from_slice(b"refused ").expect(rt, "memory");
+            out.extend_from_slice(op.as_str().as_bytes())
+                .expect(rt, "memory");
+            out.push(b' ').expect(rt, "memory");
+            out.extend_from_slice(error.name().as_bytes())
+                .expect(rt, "memory");
         }
-        Note::Line(_) => out.extend_from_slice(b"line")?,
+        Note::Line(_) => out.extend_from_slice(b"line").expect(rt, "memory"),
         Note::Posted(task) => {
-            out.extend_from_slice(b"post ")?;
-            put_number(alloc, out, task.block as u64)?;
-            out.push(b' ')?;
-            push_value_text(alloc, out, &Value::Object(task.env.variables.clone()?))?;
+            out.extend_from_slice(b"post ").expect(rt, "memory");
+            put_number(rt, alloc, out, task.block as u64);
+            out.push(b' ').expect(rt, "memory");
+            push_value_text(
+                alloc,
+                out,
+                &Value::Object(task.env.variables.clone().expect(rt, "memory")),
+            )
+            .expect(rt, "memory");
         }
     }
-    out.extend_from_slice(b"; ")?;
-    Ok(())
+    out.extend_from_slice(b"; ").expect(rt, "memory");
 }
 
 /// Runs the first block of a script, and writes its notes.
-fn run(alloc: Global, out: &mut Vec<u8>, script: &[&[Row]]) -> Result<(), Fail> {
-    let client = client(alloc, script)?;
+fn run(rt: &impl Abort, alloc: Global, out: &mut Vec<u8>, script: &[&[Row]]) {
+    let client = client(rt, alloc, script);
     let mut notes = Notes::new(alloc);
     let mut at = At {
         env: Env::new(alloc),
@@ -274,28 +280,29 @@ fn run(alloc: Global, out: &mut Vec<u8>, script: &[&[Row]]) -> Result<(), Fail> 
         client.main,
         &mut at,
         &mut notes,
-    )?;
+    )
+    .expect(rt, "memory");
     for note in notes.as_slice() {
-        show(alloc, out, note)?;
+        show(rt, alloc, out, note);
     }
     if let RunEnd::Threw = end {
-        out.extend_from_slice(b"threw")?;
+        out.extend_from_slice(b"threw").expect(rt, "memory");
     }
-    out.push(b'\n')?;
-    Ok(())
+    out.push(b'\n').expect(rt, "memory");
 }
 
 #[test]
-fn scripts_write_what_the_rules_say(rt: HostRuntime) -> Result<(), Fail> {
+fn scripts_write_what_the_rules_say(rt: HostRuntime) {
     let mut written = Vec::new(rt.alloc());
     let mut wanted = Vec::new(rt.alloc());
     for (place, script) in SCRIPTS.iter().enumerate() {
-        run(rt.alloc(), &mut written, script)?;
+        run(&rt, rt.alloc(), &mut written, script);
         if let Some(text) = WRITTEN.get(place) {
-            wanted.extend_from_slice(text.as_bytes())?;
+            wanted
+                .extend_from_slice(text.as_bytes())
+                .expect(&rt, "memory");
         }
-        wanted.push(b'\n')?;
+        wanted.push(b'\n').expect(&rt, "memory");
     }
     assert!(rt; written.as_slice() == wanted.as_slice());
-    Ok(())
 }

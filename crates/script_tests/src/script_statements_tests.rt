@@ -1,25 +1,35 @@
 // The statements of a block by its place.
 use clone_values::Text;
-use idb_base::{Listed, NoMemory};
+use idb_base::Listed;
 use script_statements::{Block, BlockPlace, Client, Stmt};
 use std::alloc::Global;
 use std::fmt::Write;
-use std::test::Fail;
+use std::process::Abort;
 
-fn block(alloc: Global, name: Text, stmt: Stmt) -> Result<Block, NoMemory> {
+fn block(rt: &impl Abort, alloc: Global, name: Text, stmt: Stmt) -> Block {
     let mut body = Listed::new(alloc);
-    body.push(stmt)?;
-    Ok(Block { name, body })
+    body.push(stmt).expect(rt, "memory");
+    Block { name, body }
 }
 
 // A client of two blocks, of which the first throws and the second commits.
-fn client(alloc: Global) -> Result<Client, NoMemory> {
+fn client(rt: &impl Abort, alloc: Global) -> Client {
     let mut blocks = Listed::new(alloc);
-    let first = block(alloc, Text::copy_of(alloc, "first")?, Stmt::Throw)?;
-    blocks.push(first)?;
-    let main = block(alloc, Text::copy_of(alloc, "main")?, Stmt::Commit)?;
-    blocks.push(main)?;
-    Ok(Client { blocks, main: 1 })
+    let first = block(
+        rt,
+        alloc,
+        Text::copy_of(alloc, "first").expect(rt, "memory"),
+        Stmt::Throw,
+    );
+    blocks.push(first).expect(rt, "memory");
+    let main = block(
+        rt,
+        alloc,
+        Text::copy_of(alloc, "main").expect(rt, "memory"),
+        Stmt::Commit,
+    );
+    blocks.push(main).expect(rt, "memory");
+    Client { blocks, main: 1 }
 }
 
 /// Writes what the block at this place does.
@@ -42,13 +52,12 @@ fn tell(said: &mut String, client: &Client, place: BlockPlace) {
 
 /// A block is found at its place, and past the last there is none.
 #[test]
-fn blocks_stand_at_their_places(rt: HostRuntime) -> Result<(), Fail> {
+fn blocks_stand_at_their_places(rt: HostRuntime) {
     let mut said = String::new(rt.alloc());
-    let client = client(rt.alloc())?;
+    let client = client(&rt, rt.alloc());
     for place in [0, client.main, 2] {
         tell(&mut said, &client, place);
     }
     drop(client);
     assert!(rt; said.as_str() == "throw commit nothing ");
-    Ok(())
 }

@@ -5,7 +5,7 @@ use script_exprs::expr_from_json;
 use script_values::value_of_expr;
 use serde_json::Value as Json;
 use std::alloc::Global;
-use std::test::Fail;
+use std::process::Abort;
 use value_json::push_value_text;
 
 /// The variables that are set, in order: each stands for what its expression gives where those before it are set.
@@ -88,89 +88,92 @@ const GIVEN: [(&str, &str); 32] = [
 ];
 
 /// What the expression gives.
-fn given(alloc: Global, variables: &Props, text: &str) -> Result<Value, Fail> {
-    let document = Json::from_str(alloc, text)?;
+fn given(rt: &impl Abort, alloc: Global, variables: &Props, text: &str) -> Value {
+    let document = Json::from_str(alloc, text).expect(rt, "a document");
     match expr_from_json(alloc, &document) {
-        Ok(expr) => Ok(value_of_expr(alloc, variables, &expr)?),
-        Err(_) => Err(Fail::new("no expression")),
+        Ok(expr) => value_of_expr(alloc, variables, &expr).expect(rt, "memory"),
+        Err(_) => panic!(rt; "no expression"),
     }
 }
 
 /// The variables.
-fn variables(alloc: Global) -> Result<Props, Fail> {
+fn variables(rt: &impl Abort, alloc: Global) -> Props {
     let mut variables = Props::new(alloc);
     for (name, text) in &VARIABLES {
-        let value = given(alloc, &variables, text)?;
-        set(alloc, &mut variables, name, value)?;
+        let value = given(rt, alloc, &variables, text);
+        set(rt, alloc, &mut variables, name, value);
     }
-    Ok(variables)
+    variables
 }
 
-fn set(alloc: Global, variables: &mut Props, name: &str, value: Value) -> Result<(), Fail> {
-    if name.len() > GREATEST_LENGTH || variables.len() >= GREATEST_LENGTH {
-        return Err(Fail::new("long"));
-    }
-    variables.set(Text::copy_of(alloc, name)?, value)?;
-    Ok(())
+fn set(rt: &impl Abort, alloc: Global, variables: &mut Props, name: &str, value: Value) {
+    assert!(rt; name.len() <= GREATEST_LENGTH && variables.len() < GREATEST_LENGTH);
+    variables
+        .set(Text::copy_of(alloc, name).expect(rt, "memory"), value)
+        .expect(rt, "memory");
 }
 
 /// Each expression and what it gives, or is to give, a line for each.
-fn lines(alloc: Global, computed: bool) -> Result<Vec<u8>, Fail> {
-    let variables = variables(alloc)?;
+fn lines(rt: &impl Abort, alloc: Global, computed: bool) -> Vec<u8> {
+    let variables = variables(rt, alloc);
     let mut out = Vec::new(alloc);
     for (text, wanted) in &GIVEN {
-        out.extend_from_slice(text.as_bytes())?;
-        out.push(b' ')?;
+        out.extend_from_slice(text.as_bytes()).expect(rt, "memory");
+        out.push(b' ').expect(rt, "memory");
         if computed {
-            push_value_text(alloc, &mut out, &given(alloc, &variables, text)?)?;
+            push_value_text(alloc, &mut out, &given(rt, alloc, &variables, text)).expect(
+                rt, "memory",
+            );
         } else {
-            out.extend_from_slice(wanted.as_bytes())?;
+            out.extend_from_slice(wanted.as_bytes())
+                .expect(rt, "memory");
         }
-        out.push(b'\n')?;
+        out.push(b'\n').expect(rt, "memory");
     }
-    Ok(out)
+    out
 }
 
 #[test]
-fn each_form_gives_its_value(rt: HostRuntime) -> Result<(), Fail> {
-    let computed = lines(rt.alloc(), true)?;
-    let wanted = lines(rt.alloc(), false)?;
+fn each_form_gives_its_value(rt: HostRuntime) {
+    let computed = lines(&rt, rt.alloc(), true);
+    let wanted = lines(&rt, rt.alloc(), false);
     assert!(rt; computed.as_slice() == wanted.as_slice());
-    Ok(())
 }
 
 /// How many times an Array in an Array can be made by an expression before it gives Undefined.
-fn greatest_depth(alloc: Global) -> Result<u32, Fail> {
+fn greatest_depth(rt: &impl Abort, alloc: Global) -> u32 {
     let mut variables = Props::new(alloc);
     for depth in 0..200 {
-        let value = given(alloc, &variables, "[{\"$var\":\"x\"}]")?;
+        let value = given(rt, alloc, &variables, "[{\"$var\":\"x\"}]");
         if let Value::Undefined = value {
-            return Ok(depth);
+            return depth;
         }
-        set(alloc, &mut variables, "x", value)?;
+        set(rt, alloc, &mut variables, "x", value);
     }
-    Ok(200)
+    200
 }
 
 /// How many times an Array can be doubled from one item on before it gives Undefined.
-fn greatest_doubling(alloc: Global) -> Result<u32, Fail> {
+fn greatest_doubling(rt: &impl Abort, alloc: Global) -> u32 {
     let mut variables = Props::new(alloc);
     for times in 0..40 {
-        let value = given(alloc, &variables, "[{\"$var\":\"x\"},{\"$var\":\"x\"}]")?;
+        let value = given(rt, alloc, &variables, "[{\"$var\":\"x\"},{\"$var\":\"x\"}]");
         if let Value::Undefined = value {
-            return Ok(times);
+            return times;
         }
-        set(alloc, &mut variables, "x", value)?;
+        set(rt, alloc, &mut variables, "x", value);
     }
-    Ok(40)
+    40
 }
 
 // The first Array holds Undefined, so it has depth 2. The n-th one has depth n + 1, and 119 of them have at most 120. The n-th
 // doubled Array has 2^n places of Undefined, one byte each, and 2^n - 1 Arrays of 9 bytes more: 10 * 2^n - 9 bytes, which is
 // 655,351 for n = 16 and 1,310,711 for n = 17.
 #[test]
-fn limits_give_undefined(rt: HostRuntime) -> Result<(), Fail> {
-    let found = (greatest_depth(rt.alloc())?, greatest_doubling(rt.alloc())?);
+fn limits_give_undefined(rt: HostRuntime) {
+    let found = (
+        greatest_depth(&rt, rt.alloc()),
+        greatest_doubling(&rt, rt.alloc()),
+    );
     assert!(rt; found == (119, 16));
-    Ok(())
 }

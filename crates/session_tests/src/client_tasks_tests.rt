@@ -3,7 +3,7 @@ use client_parts::{BegunBody, ScriptClient};
 use client_seats::seat_laws;
 use client_tasks::*;
 use clone_values::{Numbers, Text, Texts};
-use idb_base::{GREATEST_LENGTH, Listed, NoMemory};
+use idb_base::{GREATEST_LENGTH, Listed};
 use idb_calls::{Outcome, PendingLines, Tokens};
 use idb_desk::Desk;
 use idb_keys::{ErrorName, Mode};
@@ -14,8 +14,8 @@ use script_runs::{Note, Notes};
 use script_statements::{Block, BlockPlace, Client, Stmt};
 use serde_json::Value as Json;
 use std::alloc::Global;
+use std::process;
 use std::sync::Arc;
-use std::test::Fail;
 
 /// A statement; expressions are documents.
 #[derive(Clone, Copy)]
@@ -118,38 +118,34 @@ const SESSIONS: [(&[&[Row]], &str); 6] = [
     ),
 ];
 
-fn expr(alloc: Global, text: &str) -> Result<Expr, Fail> {
-    let document = Json::from_str(alloc, text)?;
+fn expr(rt: &impl process::Abort, alloc: Global, text: &str) -> Expr {
+    let document = Json::from_str(alloc, text).expect(rt, "a document");
     match expr_from_json(alloc, &document) {
-        Ok(expr) => Ok(expr),
-        Err(_) => Err(Fail::new("no expression")),
+        Ok(expr) => expr,
+        Err(_) => panic!(rt; "no expression"),
     }
 }
 
-fn text(alloc: Global, s: &str) -> Result<Text, Fail> {
-    if s.len() > GREATEST_LENGTH {
-        return Err(Fail::new("long"));
-    }
-    Ok(Text::copy_of(alloc, s)?)
+fn text(rt: &impl process::Abort, alloc: Global, s: &str) -> Text {
+    assert!(rt; s.len() <= GREATEST_LENGTH);
+    Text::copy_of(alloc, s).expect(rt, "memory")
 }
 
-fn texts(alloc: Global, names: &[&'static str]) -> Result<Texts, Fail> {
+fn texts(rt: &impl process::Abort, alloc: Global, names: &[&'static str]) -> Texts {
     let mut list = Vec::new(alloc);
     for name in names {
-        list.push(text(alloc, name)?)?;
+        list.push(text(rt, alloc, name)).expect(rt, "memory");
     }
-    if list.len() > GREATEST_LENGTH {
-        return Err(Fail::new("long"));
-    }
-    Ok(Texts::from_vec(list))
+    assert!(rt; list.len() <= GREATEST_LENGTH);
+    Texts::from_vec(list)
 }
 
-fn statement(alloc: Global, row: &Row) -> Result<Stmt, Fail> {
+fn statement(rt: &impl process::Abort, alloc: Global, row: &Row) -> Stmt {
     match row {
-        Row::Open(version, upgrade, success, version_change) => Ok(Stmt::Open {
-            db: text(alloc, "d")?,
+        Row::Open(version, upgrade, success, version_change) => Stmt::Open {
+            db: text(rt, alloc, "d"),
             version: match version {
-                Some(version) => Some(expr(alloc, version)?),
+                Some(version) => Some(expr(rt, alloc, version)),
                 None => None,
             },
             upgrade: *upgrade,
@@ -158,77 +154,85 @@ fn statement(alloc: Global, row: &Row) -> Result<Stmt, Fail> {
             error: None,
             version_change: *version_change,
             closed: None,
-        }),
-        Row::Delete(success) => Ok(Stmt::DeleteDatabase {
-            db: text(alloc, "d")?,
+        },
+        Row::Delete(success) => Stmt::DeleteDatabase {
+            db: text(rt, alloc, "d"),
             blocked: None,
             success: *success,
             error: None,
-        }),
-        Row::Close => Ok(Stmt::Close { conn: None }),
-        Row::CloseOf(request) => Ok(Stmt::Close {
+        },
+        Row::Close => Stmt::Close { conn: None },
+        Row::CloseOf(request) => Stmt::Close {
             conn: Some(*request),
-        }),
-        Row::Transaction(names, body, complete, abort) => Ok(Stmt::Transaction {
+        },
+        Row::Transaction(names, body, complete, abort) => Stmt::Transaction {
             conn: None,
-            scope: texts(alloc, names)?,
+            scope: texts(rt, alloc, names),
             mode: Mode::ReadWrite,
             durability: None,
             body: *body,
             complete: *complete,
             abort: *abort,
-        }),
-        Row::Say(value) => Ok(Stmt::Say {
-            value: expr(alloc, value)?,
-        }),
-        Row::Throw => Ok(Stmt::Throw),
-        Row::Post(block) => Ok(Stmt::Post { block: *block }),
-        Row::Repeat(times, block) => Ok(Stmt::Repeat {
+        },
+        Row::Say(value) => Stmt::Say {
+            value: expr(rt, alloc, value),
+        },
+        Row::Throw => Stmt::Throw,
+        Row::Post(block) => Stmt::Post { block: *block },
+        Row::Repeat(times, block) => Stmt::Repeat {
             times: *times,
             block: *block,
-        }),
-        Row::Make(store) => Ok(Stmt::CreateObjectStore {
-            store: text(alloc, store)?,
+        },
+        Row::Make(store) => Stmt::CreateObjectStore {
+            store: text(rt, alloc, store),
             key_path: None,
             auto_increment: None,
-        }),
-        Row::Abort => Ok(Stmt::Abort),
+        },
+        Row::Abort => Stmt::Abort,
     }
 }
 
-fn script(alloc: Global, rows: &[&[Row]]) -> Result<Arc<Client, Global>, Fail> {
+fn script(rt: &impl process::Abort, alloc: Global, rows: &[&[Row]]) -> Arc<Client, Global> {
     let mut blocks = Listed::new(alloc);
     for block in rows {
         let mut body = Listed::new(alloc);
         for row in *block {
-            body.push(statement(alloc, row)?)?;
+            body.push(statement(rt, alloc, row)).expect(rt, "memory");
         }
-        blocks.push(Block {
-            name: text(alloc, "b")?,
-            body,
-        })?;
+        blocks
+            .push(Block {
+                name: text(rt, alloc, "b"),
+                body,
+            })
+            .expect(rt, "memory");
     }
-    Ok(Arc::new(alloc, Client { blocks, main: 0 })?)
+    Arc::new(alloc, Client { blocks, main: 0 }).expect(rt, "memory")
 }
 
 /// The least unfinished transaction starts and commits, or finishes without starting.
-fn end(alloc: Global, office: &mut Office, number: u64, notes: &mut Notes) -> Result<(), Fail> {
+fn end(
+    rt: &impl process::Abort,
+    alloc: Global,
+    office: &mut Office,
+    number: u64,
+    notes: &mut Notes,
+) {
     let done = match office.start(number) {
         Some(BegunBody::Scripted(tx)) => {
             let parts = tx.into_parts();
             let kept = match parts.mode {
-                Mode::VersionChange => Some(parts.front.left_schema().copy(alloc)?),
+                Mode::VersionChange => Some(
+                    parts.front.left_schema().copy(alloc).expect(rt, "memory"),
+                ),
                 _ => None,
             };
-            office.finish(alloc, number, Outcome::Committed, kept, notes)?
+            office
+                .finish(alloc, number, Outcome::Committed, kept, notes)
+                .expect(rt, "memory")
         }
-        Some(BegunBody::Deletion(_name)) => office.finish(
-            alloc,
-            number,
-            Outcome::Committed,
-            None,
-            notes,
-        )?,
+        Some(BegunBody::Deletion(_name)) => office
+            .finish(alloc, number, Outcome::Committed, None, notes)
+            .expect(rt, "memory"),
         None => match office.take_unstarted(number) {
             Some(tx) => {
                 let (kind, body) = tx.into_parts();
@@ -249,50 +253,48 @@ fn end(alloc: Global, office: &mut Office, number: u64, notes: &mut Notes) -> Re
                     doubt: false,
                 };
                 let from = notes.len();
-                office.finish_unstarted(alloc, kind, number, outcome, notes, from)?
+                office
+                    .finish_unstarted(alloc, kind, number, outcome, notes, from)
+                    .expect(rt, "memory")
             }
             None => false,
         },
     };
-    if done {
-        Ok(())
-    } else {
-        Err(Fail::new("no finish"))
-    }
+    assert!(rt; done);
 }
 
 /// Goes on until nothing is left to do.
-fn drive(alloc: Global, office: &mut Office, notes: &mut Notes) -> Result<(), Fail> {
+fn drive(rt: &impl process::Abort, alloc: Global, office: &mut Office, notes: &mut Notes) {
     for _ in 0..100 {
-        if office.run_task(alloc, notes)? {
+        if office.run_task(alloc, notes).expect(rt, "memory") {
             continue;
         }
         match office.take_event(alloc, notes) {
             Ok(true) => continue,
             Ok(false) => {}
-            Err(_) => return Err(Fail::new("no event")),
+            Err(_) => panic!(rt; "no event"),
         }
         match office.desk().least() {
-            Some(number) => end(alloc, office, number, notes)?,
-            None => return Ok(()),
+            Some(number) => end(rt, alloc, office, number, notes),
+            None => return,
         }
     }
-    Err(Fail::new("no end"))
+    panic!(rt; "no end")
 }
 
 /// The report of what was done.
-fn report(alloc: Global, office: &Office, notes: Notes) -> Result<Vec<u8>, Fail> {
+fn report(rt: &impl process::Abort, alloc: Global, office: &Office, notes: Notes) -> Vec<u8> {
     let mut lines = Lines::new(alloc);
     for note in notes.into_vec() {
         if let Note::Line(line) = note {
-            lines.push(line)?;
+            lines.push(line).expect(rt, "memory");
         }
     }
     let mut clients = ClientLines::new(alloc);
-    clients.push(lines)?;
+    clients.push(lines).expect(rt, "memory");
     let mut order = Tokens::new(alloc);
     for step in office.desk().steps() {
-        order.push(step.token())?;
+        order.push(step.token()).expect(rt, "memory");
     }
     let report = Report {
         session: 1,
@@ -304,35 +306,33 @@ fn report(alloc: Global, office: &Office, notes: Notes) -> Result<Vec<u8>, Fail>
         pending: PendingLines::new(alloc),
         end: ReportEnd::Flush,
     };
-    Ok(report_text(alloc, &report)?)
+    report_text(alloc, &report).expect(rt, "memory")
 }
 
-fn put_text(out: &mut Vec<u8>, text: &str) -> Result<(), NoMemory> {
-    out.extend_from_slice(text.as_bytes())?;
-    Ok(())
+fn put_text(rt: &impl process::Abort, out: &mut Vec<u8>, text: &str) {
+    out.extend_from_slice(text.as_bytes()).expect(rt, "memory");
 }
 
-fn session(alloc: Global, out: &mut Vec<u8>, rows: &[&[Row]]) -> Result<(), Fail> {
+fn session(rt: &impl process::Abort, alloc: Global, out: &mut Vec<u8>, rows: &[&[Row]]) {
     seat_laws();
-    let desk = Desk::new(alloc, Schemas::new(alloc))?;
-    let client = ScriptClient::new(alloc, 1, 0)?;
-    let mut office = Office::new(desk, client, script(alloc, rows)?);
+    let desk = Desk::new(alloc, Schemas::new(alloc)).expect(rt, "memory");
+    let client = ScriptClient::new(alloc, 1, 0).expect(rt, "memory");
+    let mut office = Office::new(desk, client, script(rt, alloc, rows));
     let mut notes = Notes::new(alloc);
-    drive(alloc, &mut office, &mut notes)?;
-    out.extend_from_slice(report(alloc, &office, notes)?.as_slice())?;
-    Ok(())
+    drive(rt, alloc, &mut office, &mut notes);
+    out.extend_from_slice(report(rt, alloc, &office, notes).as_slice())
+        .expect(rt, "memory");
 }
 
 #[test]
-fn a_client_reports_what_the_rules_say(rt: HostRuntime) -> Result<(), Fail> {
+fn a_client_reports_what_the_rules_say(rt: HostRuntime) {
     let mut written = Vec::new(rt.alloc());
     let mut wanted = Vec::new(rt.alloc());
     for (rows, lines) in &SESSIONS {
-        session(rt.alloc(), &mut written, rows)?;
-        put_text(&mut wanted, "session 1\nopening\nclient 1\n")?;
-        put_text(&mut wanted, lines)?;
-        put_text(&mut wanted, "finish\ncommit\nend flush\n")?;
+        session(&rt, rt.alloc(), &mut written, rows);
+        put_text(&rt, &mut wanted, "session 1\nopening\nclient 1\n");
+        put_text(&rt, &mut wanted, lines);
+        put_text(&rt, &mut wanted, "finish\ncommit\nend flush\n");
     }
     assert!(rt; written.as_slice() == wanted.as_slice());
-    Ok(())
 }

@@ -10,7 +10,7 @@ use session_openings::{SessionOpening, open_databases};
 use std::alloc::Global;
 use std::fmt::Write;
 use std::mem;
-use std::test::Fail;
+use std::process::Abort;
 
 /// What a log gave.
 #[derive(Clone, Copy)]
@@ -21,91 +21,90 @@ enum Step {
     Database(&'static str, u64),
 }
 
-fn text(alloc: Global, s: &str) -> Result<Text, Fail> {
-    if s.len() > GREATEST_LENGTH {
-        Err("a long text")?
-    }
-    Ok(Text::copy_of(alloc, s)?)
+fn text(rt: &impl Abort, alloc: Global, s: &str) -> Text {
+    assert!(rt; s.len() <= GREATEST_LENGTH);
+    Text::copy_of(alloc, s).expect(rt, "memory")
 }
 
-fn store(alloc: Global, name: &str, index: &str) -> Result<StoreVersion<FlatTables>, Fail> {
+fn store(rt: &impl Abort, alloc: Global, name: &str, index: &str) -> StoreVersion<FlatTables> {
     let mut indexes = IndexInfos::new(alloc);
-    indexes.push(IndexInfo {
-        name: text(alloc, index)?,
-        path: KeyPath::parse(PathSpec::One(text(alloc, "p")?))?,
-        unique: false,
-        multi: false,
-    })?;
-    Ok(StoreVersion::new(
+    indexes
+        .push(IndexInfo {
+            name: text(rt, alloc, index),
+            path: KeyPath::parse(PathSpec::One(text(rt, alloc, "p"))).expect(rt, "a path"),
+            unique: false,
+            multi: false,
+        })
+        .expect(rt, "memory");
+    StoreVersion::new(
         alloc,
         StoreInfo {
-            name: text(alloc, name)?,
+            name: text(rt, alloc, name),
             path: None,
             auto: true,
             indexes,
         },
-    ))
+    )
 }
 
 fn put(
+    rt: &impl Abort,
     alloc: Global,
     stores: &mut Versions<FlatTables>,
     databases: &mut Databases<FlatTables>,
     step: Step,
-) -> Result<(), Fail> {
+) {
     match step {
-        Step::Store(name, index) => stores.insert(store(alloc, name, index)?)?,
+        Step::Store(name, index) => stores
+            .insert(store(rt, alloc, name, index))
+            .expect(rt, "memory"),
         Step::Database(name, version) => {
-            if version < 1 || version > 100 {
-                Err("no version")?
-            }
-            databases.insert(Database {
-                name: text(alloc, name)?,
-                version,
-                stores: mem::replace(stores, Versions::new(alloc)),
-            })?;
+            assert!(rt; version >= 1 && version <= 100);
+            databases
+                .insert(Database {
+                    name: text(rt, alloc, name),
+                    version,
+                    stores: mem::replace(stores, Versions::new(alloc)),
+                })
+                .expect(rt, "memory");
         }
     }
-    Ok(())
 }
 
-fn tell_indexes(said: &mut String, indexes: &IndexInfos) -> Result<(), Fail> {
+fn tell_indexes(rt: &impl Abort, said: &mut String, indexes: &IndexInfos) {
     for place in 0..indexes.len() {
         if let Some(index) = indexes.at(place) {
-            write!(said, ":{}", index.name.as_str())?;
+            write!(said, ":{}", index.name.as_str()).expect(rt, "memory");
         }
     }
-    Ok(())
 }
 
-fn tell_schema(said: &mut String, schema: &Schema) -> Result<(), Fail> {
-    write!(said, "{} {}", schema.name().as_str(), schema.version())?;
+fn tell_schema(rt: &impl Abort, said: &mut String, schema: &Schema) {
+    write!(said, "{} {}", schema.name().as_str(), schema.version()).expect(rt, "memory");
     for place in 0..schema.len() {
         if let Some(info) = schema.store(place) {
-            write!(said, " {}", info.name.as_str())?;
-            tell_indexes(said, &info.indexes)?;
+            write!(said, " {}", info.name.as_str()).expect(rt, "memory");
+            tell_indexes(rt, said, &info.indexes);
         }
     }
-    write!(said, "; ")?;
-    Ok(())
+    write!(said, "; ").expect(rt, "memory");
 }
 
-fn tell(said: &mut String, opening: &SessionOpening<FlatTables>) -> Result<(), Fail> {
+fn tell(rt: &impl Abort, said: &mut String, opening: &SessionOpening<FlatTables>) {
     for place in 0..opening.lines.len() {
         if let Some(has) = opening.lines.at(place) {
-            write!(said, "{} {}; ", has.name.as_str(), has.version)?;
+            write!(said, "{} {}; ", has.name.as_str(), has.version).expect(rt, "memory");
         }
     }
     for place in 0..opening.schemas.len() {
         if let Some(schema) = opening.schemas.at(place) {
-            tell_schema(said, schema)?;
+            tell_schema(rt, said, schema);
         }
     }
-    Ok(())
 }
 
 #[test]
-fn databases_and_their_stores_stand_by_name(rt: HostRuntime) -> Result<(), Fail> {
+fn databases_and_their_stores_stand_by_name(rt: HostRuntime) {
     let alloc = rt.alloc();
     let steps = [
         Step::Store("t", "j"),
@@ -117,13 +116,14 @@ fn databases_and_their_stores_stand_by_name(rt: HostRuntime) -> Result<(), Fail>
     let mut stores = Versions::new(alloc);
     let mut databases = Databases::new(alloc);
     for step in steps {
-        put(alloc, &mut stores, &mut databases, step)?;
+        put(&rt, alloc, &mut stores, &mut databases, step);
     }
-    if !databases.are_within_limits() {
-        Err("too many")?
-    }
+    assert!(rt; databases.are_within_limits());
     let mut said = String::new(alloc);
-    tell(&mut said, &open_databases(alloc, databases)?)?;
+    tell(
+        &rt,
+        &mut said,
+        &open_databases(alloc, databases).expect(&rt, "memory"),
+    );
     assert_eq!(rt; said.as_str(), "a 1; b 3; a 1 s:k; b 3 s:i t:j; ");
-    Ok(())
 }

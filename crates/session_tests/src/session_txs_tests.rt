@@ -1,5 +1,5 @@
 // Upgrades of a database that isn't there, each run to its end.
-ghost use Rattle.std.specs.Prelude.{◌≡◌, true, false, None, is_some, IfOk, OnOk};
+ghost use Rattle.std.specs.Prelude.{◌≡◌, true, false, None, is_some};
 ghost use Rattle.item_changes.specs.Scopes.{part_of};
 ghost use Rattle.serial_order.specs.NumberOrder.{FitsWhole};
 ghost use Rattle.session_txs.specs.Running.{scope_of_scripted, IsLoggableBody};
@@ -23,8 +23,8 @@ use session_databases::SessionDatabases;
 use session_txs::*;
 use std::alloc::Global;
 use std::fmt::Write;
+use std::process;
 use std::sync::Arc;
-use std::test::Fail;
 
 /// A statement of the body of an upgrade.
 #[derive(Clone, Copy)]
@@ -49,71 +49,77 @@ const UPGRADES: [(&[Row], &str); 4] = [
     (&[Make, Add("1"), Abort], "cancelled 1"),
 ];
 
-fn expr(alloc: Global, text: &str) -> Result<Expr, Fail> {
-    let document = Json::from_str(alloc, text)?;
+fn expr(rt: &impl process::Abort, alloc: Global, text: &str) -> Expr {
+    let document = Json::from_str(alloc, text).expect(rt, "a document");
     match expr_from_json(alloc, &document) {
-        Ok(expr) => Ok(expr),
-        Err(_) => Err(Fail::new("no expression")),
+        Ok(expr) => expr,
+        Err(_) => panic!(rt; "no expression"),
     }
 }
 
-fn text(alloc: Global, s: &str) -> Result<Text, Fail> {
-    if s.len() > GREATEST_LENGTH {
-        return Err(Fail::new("long"));
-    }
-    Ok(Text::copy_of(alloc, s)?)
+fn text(rt: &impl process::Abort, alloc: Global, s: &str) -> Text {
+    assert!(rt; s.len() <= GREATEST_LENGTH);
+    Text::copy_of(alloc, s).expect(rt, "memory")
 }
 
-fn statement(alloc: Global, row: &Row) -> Result<Stmt, Fail> {
+fn statement(rt: &impl process::Abort, alloc: Global, row: &Row) -> Stmt {
     match row {
-        Row::Make => Ok(Stmt::CreateObjectStore {
-            store: text(alloc, "s")?,
+        Row::Make => Stmt::CreateObjectStore {
+            store: text(rt, alloc, "s"),
             key_path: None,
             auto_increment: None,
-        }),
-        Row::Add(key) => Ok(Stmt::Add {
-            store: text(alloc, "s")?,
-            value: expr(alloc, "0")?,
-            key: Some(expr(alloc, key)?),
+        },
+        Row::Add(key) => Stmt::Add {
+            store: text(rt, alloc, "s"),
+            value: expr(rt, alloc, "0"),
+            key: Some(expr(rt, alloc, key)),
             success: None,
             error: None,
-        }),
-        Row::Abort => Ok(Stmt::Abort),
+        },
+        Row::Abort => Stmt::Abort,
     }
 }
 
-fn client(alloc: Global, rows: &[Row]) -> Result<Arc<Client, Global>, Fail> {
+fn client(rt: &impl process::Abort, alloc: Global, rows: &[Row]) -> Arc<Client, Global> {
     let mut body = Listed::new(alloc);
     for row in rows {
-        body.push(statement(alloc, row)?)?;
+        body.push(statement(rt, alloc, row)).expect(rt, "memory");
     }
     let mut blocks = Listed::new(alloc);
-    blocks.push(Block {
-        name: text(alloc, "main")?,
-        body,
-    })?;
-    Ok(Arc::new(alloc, Client { blocks, main: 0 })?)
+    blocks
+        .push(Block {
+            name: text(rt, alloc, "main"),
+            body,
+        })
+        .expect(rt, "memory");
+    Arc::new(alloc, Client { blocks, main: 0 }).expect(rt, "memory")
 }
 
 /// An upgrade to version 1 of a database that isn't there, whose body has these statements.
-fn begun(alloc: Global, rows: &[Row], notes: &mut Notes) -> Result<BegunTx, Fail>
-    ensures fits { IfOk result (λ tx. FitsWhole None tx.body) }
-    ensures loggable { IfOk result (λ tx. IsLoggableBody tx.body) }
+fn begun(rt: &impl process::Abort, alloc: Global, rows: &[Row], notes: &mut Notes) -> BegunTx
+    ensures fits { FitsWhole None result.body }
+    ensures loggable { IsLoggableBody result.body }
 {
     let mode = Mode::VersionChange;
     let stores = StoreInfos::new(alloc);
-    let schema = Schema::new(alloc, text(alloc, "d")?, 1, stores)?;
+    let schema = Schema::new(alloc, text(rt, alloc, "d"), 1, stores).expect(rt, "memory");
     let names = Texts::new(alloc);
-    let mut front = TxFront::new(alloc, mode, schema.copy(alloc)?, names.copy(alloc)?);
+    let mut front = TxFront::new(
+        alloc,
+        mode,
+        schema.copy(alloc).expect(rt, "memory"),
+        names.copy(alloc).expect(rt, "memory"),
+    );
     let end = run_body(
         alloc,
-        &client(alloc, rows)?,
+        &client(rt, alloc, rows),
         1,
         0,
         &Env::new(alloc),
         &mut front,
         notes,
-    )?;
+    )
+    .expect(rt, "memory");
     let tx = BegunTx::new(BegunParts {
         mode,
         durability: Durability::Relaxed,
@@ -122,104 +128,112 @@ fn begun(alloc: Global, rows: &[Row], notes: &mut Notes) -> Result<BegunTx, Fail
         front,
         threw: matches!(end, RunEnd::Threw),
     });
-    Ok(tx)
+    tx
 }
 
 /// One turn; whether it goes on.
-fn turn(tx: &mut SessionTx<FlatTables>, notes: &mut Notes, said: &mut String) -> Result<bool, Fail>
+fn turn(
+    rt: &impl process::Abort,
+    tx: &mut SessionTx<FlatTables>,
+    notes: &mut Notes,
+    said: &mut String,
+) -> bool
     requires { tx.old.end ≡ None }
-    ensures on { IfOk result (λ on. on ≡ true → tx.new.end ≡ None) }
-    ensures over { IfOk result (λ on. on ≡ false → is_some tx.new.end ≡ true) }
+    ensures on { result ≡ true → tx.new.end ≡ None }
+    ensures over { result ≡ false → is_some tx.new.end ≡ true }
 {
     match tx.step(&OpenGate, 1, 1, notes) {
         Step::Did => {
             let _ = write!(said, "did ");
-            Ok(true)
+            true
         }
         Step::Idle => {
             let _ = write!(said, "committed ");
-            Ok(false)
+            false
         }
         Step::Aborted { .. } => {
             let _ = write!(said, "aborted ");
-            Ok(false)
+            false
         }
-        Step::NoMemory => Err(Fail::new("no memory")),
+        Step::NoMemory => panic!(rt; "no memory"),
     }
 }
 
 /// Turns until it is at its end.
-fn turns(tx: &mut SessionTx<FlatTables>, notes: &mut Notes, said: &mut String) -> Result<(), Fail>
+fn turns(
+    rt: &impl process::Abort,
+    tx: &mut SessionTx<FlatTables>,
+    notes: &mut Notes,
+    said: &mut String,
+)
     requires { tx.old.end ≡ None }
-    ensures { OnOk result (is_some tx.new.end ≡ true) }
+    ensures { is_some tx.new.end ≡ true }
 {
     for _turn in 0..5 {
-        if !turn(tx, notes, said)? {
-            return Ok(());
+        if !turn(rt, tx, notes, said) {
+            return;
         }
     }
-    Err(Fail::new("no end"))
+    panic!(rt; "no end")
 }
 
 /// Runs an upgrade to its end on databases that it fits.
 fn run(
+    rt: &impl process::Abort,
     alloc: Global,
     databases: &mut SessionDatabases<FlatTables>,
     begun: BegunTx,
     notes: &mut Notes,
     said: &mut String,
-) -> Result<(), Fail>
+)
     requires fits { FitsWhole (part_of (scope_of_scripted begun.body) databases.old) begun.body }
     requires loggable { IsLoggableBody begun.body }
 {
-    let mut tx = begin(alloc, databases, 1, begun)?;
+    let mut tx = begin(alloc, databases, 1, begun).expect(rt, "memory");
     if tx.may_write() {
         let _ = write!(said, "writer ");
     }
-    turns(&mut tx, notes, said)?;
+    turns(rt, &mut tx, notes, said);
     let _ = write!(said, "{}", notes.len());
     let TxEnd { kept, left, .. } = tx.close(alloc);
-    left.keep(databases)?;
+    left.keep(databases).expect(rt, "memory");
     if let Some(schema) = kept {
         let _ = write!(said, " keeps {}", schema.len());
     }
-    Ok(())
 }
 
 /// An upgrade with these statements runs on databases of its own; then its database is deleted.
-fn upgrade(alloc: Global, rows: &[Row], said: &mut String) -> Result<(), Fail> {
+fn upgrade(rt: &impl process::Abort, alloc: Global, rows: &[Row], said: &mut String) {
     let mut databases = SessionDatabases::new(alloc);
     let mut notes = Notes::new(alloc);
-    let begun = begun(alloc, rows, &mut notes)?;
+    let begun = begun(rt, alloc, rows, &mut notes);
     if begun.may_begin() {
-        run(alloc, &mut databases, begun, &mut notes, said)?;
+        run(rt, alloc, &mut databases, begun, &mut notes, said);
     } else {
-        let trace = end_begun(alloc, 1, begun, &mut notes)?;
+        let trace = end_begun(alloc, 1, begun, &mut notes).expect(rt, "memory");
         if let Outcome::Aborted { .. } = trace.outcome {
             let _ = write!(said, "cancelled {}", notes.len());
         }
     }
-    let name = text(alloc, "d")?;
+    let name = text(rt, alloc, "d");
     if let Some(version) = databases.version(&name) {
         let _ = write!(said, " at {version}");
     }
-    delete_database(alloc, &mut databases, &name)?;
+    delete_database(alloc, &mut databases, &name).expect(rt, "memory");
     if let Some(version) = databases.version(&name) {
         let _ = write!(said, " still at {version}");
     }
-    Ok(())
 }
 
 #[test]
-fn upgrades_keep_what_they_committed_alone(rt: HostRuntime) -> Result<(), Fail> {
+fn upgrades_keep_what_they_committed_alone(rt: HostRuntime) {
     let mut said = String::new(rt.alloc());
     let mut wanted = String::new(rt.alloc());
     for (rows, line) in UPGRADES {
-        upgrade(rt.alloc(), rows, &mut said)?;
-        said.push_str("\n")?;
-        wanted.push_str(line)?;
-        wanted.push_str("\n")?;
+        upgrade(&rt, rt.alloc(), rows, &mut said);
+        said.push_str("\n").expect(&rt, "memory");
+        wanted.push_str(line).expect(&rt, "memory");
+        wanted.push_str("\n").expect(&rt, "memory");
     }
     assert_eq!(rt; said.as_str(), wanted.as_str());
-    Ok(())
 }

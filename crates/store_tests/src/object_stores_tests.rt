@@ -1,10 +1,10 @@
-ghost use Rattle.std.specs.Prelude.{◌≡◌, true, false, IfOk};
+ghost use Rattle.std.specs.Prelude.{◌≡◌, true, false};
 ghost use Rattle.clone_values.specs.View.{tree_of};
 ghost use Rattle.clone_values.specs.declared.path_types.PathSpec.TheVariants.{One};
 ghost use Rattle.object_stores.specs.Storing.{HasKey, in_line};
 
 use clone_values::{Key, PathSpec, Props, Text, Value, is_cloneable, is_int, well_formed};
-use idb_base::{GREATEST_LENGTH, NoMemory};
+use idb_base::GREATEST_LENGTH;
 use idb_keys::{KeyRange, Over};
 use idb_schema::{IndexInfo, IndexInfos, StoreInfo};
 use index_tables::{FlatTables, Tables};
@@ -13,7 +13,6 @@ use object_stores::*;
 use path_grammar::KeyPath;
 use std::alloc::Global;
 use std::process::Abort;
-use std::test::Fail;
 
 /// One call. A value is `{"e": e}`, or the Object without properties.
 #[derive(Clone, Copy)]
@@ -37,86 +36,89 @@ enum Step {
 }
 
 // ---- stores and values
-fn path(alloc: Global, s: &str) -> Result<KeyPath, Fail>
-    ensures { IfOk result (λ p. p ≡ One s.now) }
+fn path(rt: &impl Abort, alloc: Global, s: &str) -> KeyPath
+    ensures { result ≡ One s.now }
 {
-    if s.len() > GREATEST_LENGTH {
-        return Err(Fail::new("a long path"));
-    }
-    Ok(KeyPath::parse(PathSpec::One(Text::copy_of(alloc, s)?))?)
+    assert!(rt; s.len() <= GREATEST_LENGTH);
+    KeyPath::parse(PathSpec::One(Text::copy_of(alloc, s).expect(rt, "memory"))).expect(rt, "a path")
 }
 
-fn by_e(alloc: Global, unique: bool) -> Result<IndexInfo, Fail>
-    ensures { IfOk result (λ i. i.multi ≡ false) }
+fn by_e(rt: &impl Abort, alloc: Global, unique: bool) -> IndexInfo
+    ensures { result.multi ≡ false }
 {
-    let path = path(alloc, "e")?;
-    let name = Text::copy_of(alloc, "by e")?;
-    Ok(IndexInfo {
+    let path = path(rt, alloc, "e");
+    let name = Text::copy_of(alloc, "by e").expect(rt, "memory");
+    IndexInfo {
         name,
         path,
         unique,
         multi: false,
-    })
+    }
 }
 
 /// A store whose keys stand beside the values, with a generator or without.
-fn new_store<T: Tables>(alloc: Global, auto: bool) -> Result<StoreVersion<T>, Fail> {
+fn new_store<T: Tables>(rt: &impl Abort, alloc: Global, auto: bool) -> StoreVersion<T> {
     let info = StoreInfo {
-        name: Text::copy_of(alloc, "s")?,
+        name: Text::copy_of(alloc, "s").expect(rt, "memory"),
         path: None,
         auto,
         indexes: IndexInfos::new(alloc),
     };
-    Ok(StoreVersion::new(alloc, info))
+    StoreVersion::new(alloc, info)
 }
 
 /// The Object with the one property `e`.
-fn object(rt: &impl Abort, alloc: Global, e: i64) -> Result<Value, Fail> {
+fn object(rt: &impl Abort, alloc: Global, e: i64) -> Value {
     let mut props = Props::new(alloc);
     assert!(rt; props.len() < 100);
-    props.set(Text::copy_of(alloc, "e")?, Value::Int(e))?;
-    Ok(Value::Object(props))
+    props
+        .set(
+            Text::copy_of(alloc, "e").expect(rt, "memory"),
+            Value::Int(e),
+        )
+        .expect(rt, "memory");
+    Value::Object(props)
 }
 
 // ---- one call each
 /// The key; `!` where it was refused.
-fn push_answer(text: &mut String, stored: Result<Key, StoreError>) -> Result<(), Fail> {
+fn push_answer(rt: &impl Abort, text: &mut String, stored: Result<Key, StoreError>) {
     match &stored {
-        Ok(Key::Number(n)) => Ok(write!(text, "{n} ")?),
-        Err(StoreError::Constraint) => push(text, "! "),
-        _ => push(text, "? "),
+        Ok(Key::Number(n)) => write!(text, "{n} ").expect(rt, "memory"),
+        Err(StoreError::Constraint) => push(rt, text, "! "),
+        _ => push(rt, text, "? "),
     }
 }
 
 /// Stores the value under a number.
 fn put<T: Tables>(
+    rt: &impl Abort,
     store: &mut StoreVersion<T>,
     value: Value,
     key: i64,
     add: bool,
-) -> Result<Result<Key, StoreError>, Fail> {
-    if !well_formed(&value) || !is_cloneable(&value) || !is_int(key) {
-        return Err(Fail::new("no record"));
-    }
-    Ok(store.store_record(value, Some(Key::Number(key)), add))
+) -> Result<Key, StoreError> {
+    assert!(rt; well_formed(&value) && is_cloneable(&value) && is_int(key));
+    store.store_record(value, Some(Key::Number(key)), add)
 }
 
 fn has_key<T: Tables>(
+    rt: &impl Abort,
     alloc: Global,
     store: &StoreVersion<T>,
     value: &Value,
-) -> Result<bool, NoMemory>
-    ensures { IfOk result (λ b. b ≡ true → HasKey store.now.store.info.path store.now.store.info.auto
-        (tree_of value.now) (in_line store.now.store.info.path (tree_of value.now))) }
+) -> bool
+    ensures { result ≡ true → HasKey store.now.store.info.path store.now.store.info.auto
+        (tree_of value.now) (in_line store.now.store.info.path (tree_of value.now)) }
 {
     match &store.info().path {
-        None => Ok(store.info().auto),
-        Some(path) => match extract(alloc, path, false, value)? {
-            Extracted::One(_) => Ok(true),
-            Extracted::Many(_) => Ok(false),
-            Extracted::Invalid => Ok(false),
+        None => store.info().auto,
+        Some(path) => match extract(alloc, path, false, value).expect(rt, "memory") {
+            Extracted::One(_) => true,
+            Extracted::Many(_) => false,
+            Extracted::Invalid => false,
             Extracted::Failure => {
-                Ok(store.info().auto && could_inject(path, value) && has_room(path, value))
+                store.info().auto && could_inject(path, value) && has_room(path, value)
             }
         },
     }
@@ -124,26 +126,24 @@ fn has_key<T: Tables>(
 
 /// Stores a value without a key.
 fn put_alone<T: Tables>(
+    rt: &impl Abort,
     alloc: Global,
     store: &mut StoreVersion<T>,
     value: Value,
-) -> Result<Result<Key, StoreError>, Fail> {
-    if !well_formed(&value) || !is_cloneable(&value) || !has_key(alloc, store, &value)? {
-        return Err(Fail::new("no key"));
-    }
-    Ok(store.store_record(value, None, false))
+) -> Result<Key, StoreError> {
+    assert!(rt; well_formed(&value) && is_cloneable(&value) && has_key(rt, alloc, store, &value));
+    store.store_record(value, None, false)
 }
 
 fn added<T: Tables>(
+    rt: &impl Abort,
     alloc: Global,
     store: &mut StoreVersion<T>,
     unique: bool,
-) -> Result<Result<(), IndexError>, Fail> {
-    let info = by_e(alloc, unique)?;
-    if store.info().indexes.len() != 0 {
-        return Err(Fail::new("one index will do"));
-    }
-    Ok(store.add_index(info))
+) -> Result<(), IndexError> {
+    let info = by_e(rt, alloc, unique);
+    assert!(rt; store.info().indexes.len() == 0);
+    store.add_index(info)
 }
 
 /// The number of the key that breaks the index, or 0; `None` where there is another cause.
@@ -161,78 +161,69 @@ fn broken(answer: &Result<(), IndexError>) -> Option<i64> {
 
 /// The key that breaks the index, or 0.
 fn add_index<T: Tables>(
+    rt: &impl Abort,
     alloc: Global,
     store: &mut StoreVersion<T>,
     unique: bool,
-) -> Result<i64, Fail> {
-    let answer = added(alloc, store, unique)?;
+) -> i64 {
+    let answer = added(rt, alloc, store, unique);
     match broken(&answer) {
-        Some(n) => Ok(n),
-        None => Err(Fail::new("another cause")),
+        Some(n) => n,
+        None => panic!(rt; "another cause"),
     }
 }
 
-fn drop_index<T: Tables>(store: &mut StoreVersion<T>) -> Result<(), Fail> {
-    if store.info().indexes.len() == 0 {
-        return Err(Fail::new("no index"));
-    }
-    Ok(store.drop_index(0)?)
+fn drop_index<T: Tables>(rt: &impl Abort, store: &mut StoreVersion<T>) {
+    assert!(rt; store.info().indexes.len() != 0);
+    store.drop_index(0).expect(rt, "memory")
 }
 
-fn set_current<T: Tables>(store: &mut StoreVersion<T>, current: u64) -> Result<(), Fail> {
-    if !store.info().auto || current < 1 || current > 9007199254740993 {
-        return Err(Fail::new("no generator"));
-    }
+fn set_current<T: Tables>(rt: &impl Abort, store: &mut StoreVersion<T>, current: u64) {
+    assert!(rt; store.info().auto && current >= 1 && current <= 9007199254740993);
     store.set_current(current);
-    Ok(())
 }
 
-fn undo<T: Tables>(store: &mut StoreVersion<T>, mark: Mark) -> Result<(), Fail> {
-    if mark.place > store.mark().place || !store.info().auto && mark.current != 1 {
-        return Err(Fail::new("no mark"));
-    }
-    if mark.current < 1 || mark.current > 9007199254740993 {
-        return Err(Fail::new("no number"));
-    }
+fn undo<T: Tables>(rt: &impl Abort, store: &mut StoreVersion<T>, mark: Mark) {
+    assert!(rt; mark.place <= store.mark().place && (store.info().auto || mark.current == 1));
+    assert!(rt; mark.current >= 1 && mark.current <= 9007199254740993);
     store.undo_to(mark);
-    Ok(())
 }
 
-fn push(text: &mut String, s: &str) -> Result<(), Fail> {
-    Ok(text.push_str(s)?)
+fn push(rt: &impl Abort, text: &mut String, s: &str) {
+    text.push_str(s).expect(rt, "memory")
 }
 
-fn push_row(text: &mut String, row: Option<(&Key, &Key)>) -> Result<(), Fail> {
+fn push_row(rt: &impl Abort, text: &mut String, row: Option<(&Key, &Key)>) {
     match row {
-        Some((Key::Number(key), Key::Number(primary))) => Ok(write!(text, "{key}:{primary} ")?),
-        _ => push(text, "? "),
+        Some((Key::Number(key), Key::Number(primary))) => write!(text, "{key}:{primary} ").expect(
+            rt, "memory",
+        ),
+        _ => push(rt, text, "? "),
     }
 }
 
 /// The members of the store, or of its first index.
-fn push_rows<T: Tables>(
-    text: &mut String,
-    store: &StoreVersion<T>,
-    over: Over,
-) -> Result<(), Fail> {
+fn push_rows<T: Tables>(rt: &impl Abort, text: &mut String, store: &StoreVersion<T>, over: Over) {
     for place in 0..store.row_count(over) {
-        push_row(text, store.row(over, place))?;
+        push_row(rt, text, store.row(over, place));
     }
-    push(text, "| ")
+    push(rt, text, "| ")
 }
 
 /// The members of the store and of its first index, and the generator's number.
-fn push_store<T: Tables>(text: &mut String, store: &StoreVersion<T>) -> Result<(), Fail> {
-    push_rows(text, store, Over::Store)?;
-    push_rows(text, store, Over::Index(0))?;
-    Ok(write!(text, "{} / ", store.current())?)
+fn push_store<T: Tables>(rt: &impl Abort, text: &mut String, store: &StoreVersion<T>) {
+    push_rows(rt, text, store, Over::Store);
+    push_rows(rt, text, store, Over::Index(0));
+    write!(text, "{} / ", store.current()).expect(rt, "memory")
 }
 
-fn push_value(text: &mut String, value: Option<&Value>) -> Result<(), Fail> {
+fn push_value(rt: &impl Abort, text: &mut String, value: Option<&Value>) {
     match value {
-        Some(Value::Object(props)) => Ok(write!(text, "{} properties ", props.len())?),
-        Some(_) => push(text, "? "),
-        None => push(text, "- "),
+        Some(Value::Object(props)) => write!(text, "{} properties ", props.len()).expect(
+            rt, "memory",
+        ),
+        Some(_) => push(rt, text, "? "),
+        None => push(rt, text, "- "),
     }
 }
 
@@ -243,9 +234,9 @@ fn push_put<T: Tables>(
     text: &mut String,
     store: &mut StoreVersion<T>,
     (key, e, add): (i64, i64, bool),
-) -> Result<(), Fail> {
-    let value = object(rt, alloc, e)?;
-    push_answer(text, put(store, value, key, add)?)
+) {
+    let value = object(rt, alloc, e);
+    push_answer(rt, text, put(rt, store, value, key, add))
 }
 
 fn push_next<T: Tables>(
@@ -254,60 +245,68 @@ fn push_next<T: Tables>(
     text: &mut String,
     store: &mut StoreVersion<T>,
     e: i64,
-) -> Result<(), Fail> {
-    let value = object(rt, alloc, e)?;
-    push_answer(text, put_alone(alloc, store, value)?)
+) {
+    let value = object(rt, alloc, e);
+    push_answer(rt, text, put_alone(rt, alloc, store, value))
 }
 
 fn push_empty<T: Tables>(
+    rt: &impl Abort,
     alloc: Global,
     text: &mut String,
     store: &mut StoreVersion<T>,
-) -> Result<(), Fail> {
+) {
     let value = Value::Object(Props::new(alloc));
-    push_answer(text, put_alone(alloc, store, value)?)
+    push_answer(rt, text, put_alone(rt, alloc, store, value))
 }
 
 fn push_deleted<T: Tables>(
+    rt: &impl Abort,
     text: &mut String,
     store: &mut StoreVersion<T>,
     low: i64,
     high: i64,
-) -> Result<(), Fail> {
+) {
     match KeyRange::bound(Key::Number(low), Key::Number(high), false, false) {
-        Ok(range) => Ok(write!(text, "{} gone ", store.delete_range(&range)?)?),
-        Err(_) => Err(Fail::new("no range")),
+        Ok(range) => write!(
+            text,
+            "{} gone ",
+            store.delete_range(&range).expect(rt, "memory")
+        )
+        .expect(rt, "memory"),
+        Err(_) => panic!(rt; "no range"),
     }
 }
 
-fn clear<T: Tables>(store: &mut StoreVersion<T>) -> Result<(), Fail> {
-    Ok(store.clear()?)
+fn clear<T: Tables>(rt: &impl Abort, store: &mut StoreVersion<T>) {
+    store.clear().expect(rt, "memory")
 }
 
 fn push_added<T: Tables>(
+    rt: &impl Abort,
     alloc: Global,
     text: &mut String,
     store: &mut StoreVersion<T>,
     unique: bool,
-) -> Result<(), Fail> {
-    let answer = add_index(alloc, store, unique)?;
-    Ok(write!(text, "{answer} ")?)
+) {
+    let answer = add_index(rt, alloc, store, unique);
+    write!(text, "{answer} ").expect(rt, "memory")
 }
 
-fn push_mark<T: Tables>(store: &StoreVersion<T>, marks: &mut Vec<Mark>) -> Result<(), Fail> {
-    Ok(marks.push(store.mark())?)
+fn push_mark<T: Tables>(rt: &impl Abort, store: &StoreVersion<T>, marks: &mut Vec<Mark>) {
+    marks.push(store.mark()).expect(rt, "memory")
 }
 
-fn undo_last<T: Tables>(store: &mut StoreVersion<T>, marks: &mut Vec<Mark>) -> Result<(), Fail> {
+fn undo_last<T: Tables>(rt: &impl Abort, store: &mut StoreVersion<T>, marks: &mut Vec<Mark>) {
     match marks.pop() {
-        Some(mark) => undo(store, mark),
-        None => Err(Fail::new("no mark")),
+        Some(mark) => undo(rt, store, mark),
+        None => panic!(rt; "no mark"),
     }
 }
 
-fn push_copy<T: Tables>(text: &mut String, store: &StoreVersion<T>) -> Result<(), Fail> {
-    let copy = store.copy()?;
-    push_store(text, &copy)
+fn push_copy<T: Tables>(rt: &impl Abort, text: &mut String, store: &StoreVersion<T>) {
+    let copy = store.copy().expect(rt, "memory");
+    push_store(rt, text, &copy)
 }
 
 /// Does a step that changes the records, and writes what it answers.
@@ -317,33 +316,34 @@ fn run_of_records<T: Tables>(
     text: &mut String,
     store: &mut StoreVersion<T>,
     step: Step,
-) -> Result<(), Fail> {
+) {
     match step {
         Step::Put(key, e) => push_put(rt, alloc, text, store, (key, e, false)),
         Step::Add(key, e) => push_put(rt, alloc, text, store, (key, e, true)),
         Step::PutNext(e) => push_next(rt, alloc, text, store, e),
-        Step::PutEmpty => push_empty(alloc, text, store),
-        Step::Delete(low, high) => push_deleted(text, store, low, high),
-        Step::Clear => clear(store),
-        _ => run_of_store(alloc, text, store, step),
+        Step::PutEmpty => push_empty(rt, alloc, text, store),
+        Step::Delete(low, high) => push_deleted(rt, text, store, low, high),
+        Step::Clear => clear(rt, store),
+        _ => run_of_store(rt, alloc, text, store, step),
     }
 }
 
 /// Does a step of the indexes or of the generator, or one that reads, and writes what it answers.
 fn run_of_store<T: Tables>(
+    rt: &impl Abort,
     alloc: Global,
     text: &mut String,
     store: &mut StoreVersion<T>,
     step: Step,
-) -> Result<(), Fail> {
+) {
     match step {
-        Step::AddIndex(unique) => push_added(alloc, text, store, unique),
-        Step::DropIndex => drop_index(store),
-        Step::SetCurrent(n) => set_current(store, n),
-        Step::Value(key) => push_value(text, store.value_of(&Key::Number(key))),
-        Step::Copy => push_copy(text, store),
-        Step::Show => push_store(text, store),
-        _ => Err(Fail::new("a step of its marks")),
+        Step::AddIndex(unique) => push_added(rt, alloc, text, store, unique),
+        Step::DropIndex => drop_index(rt, store),
+        Step::SetCurrent(n) => set_current(rt, store, n),
+        Step::Value(key) => push_value(rt, text, store.value_of(&Key::Number(key))),
+        Step::Copy => push_copy(rt, text, store),
+        Step::Show => push_store(rt, text, store),
+        _ => panic!(rt; "a step of its marks"),
     }
 }
 
@@ -355,15 +355,14 @@ fn run<T: Tables>(
     store: &mut StoreVersion<T>,
     marks: &mut Vec<Mark>,
     step: Step,
-) -> Result<(), Fail> {
+) {
     match step {
-        Step::Mark => push_mark(store, marks)?,
-        Step::Undo => undo_last(store, marks)?,
+        Step::Mark => push_mark(rt, store, marks),
+        Step::Undo => undo_last(rt, store, marks),
         Step::UndoAll => store.undo_all(),
         Step::Settle => store.settle(),
-        _ => run_of_records(rt, alloc, text, store, step)?,
+        _ => run_of_records(rt, alloc, text, store, step),
     }
-    Ok(())
 }
 
 /// What these steps of a store answer, one behind the other.
@@ -372,29 +371,24 @@ fn answers<T: Tables>(
     alloc: Global,
     mut store: StoreVersion<T>,
     steps: &[Step],
-) -> Result<String, Fail> {
+) -> String {
     let mut text = String::new(alloc);
     let mut marks = Vec::new(alloc);
     for step in steps {
-        run(rt, alloc, &mut text, &mut store, &mut marks, *step)?;
+        run(rt, alloc, &mut text, &mut store, &mut marks, *step);
     }
-    Ok(text)
+    text
 }
 
 /// What a new store answers to these steps.
-fn told_of_new<T: Tables>(
-    rt: &impl Abort,
-    alloc: Global,
-    auto: bool,
-    steps: &[Step],
-) -> Result<String, Fail> {
-    let store: StoreVersion<T> = new_store(alloc, auto)?;
+fn told_of_new<T: Tables>(rt: &impl Abort, alloc: Global, auto: bool, steps: &[Step]) -> String {
+    let store: StoreVersion<T> = new_store(rt, alloc, auto);
     answers::<T>(rt, alloc, store, steps)
 }
 
 /// What a new store with a key path answers to these steps.
-fn told_of_path<T: Tables>(rt: &impl Abort, alloc: Global, steps: &[Step]) -> Result<String, Fail> {
-    let store: StoreVersion<T> = store_of_path(alloc)?;
+fn told_of_path<T: Tables>(rt: &impl Abort, alloc: Global, steps: &[Step]) -> String {
+    let store: StoreVersion<T> = store_of_path(rt, alloc);
     answers::<T>(rt, alloc, store, steps)
 }
 
@@ -413,13 +407,12 @@ const OF_A_UNIQUE_INDEX: [Step; 10] = [
 
 /// A unique index refuses a second row of one key and keeps the first; a record that gets another value takes its row along.
 #[test]
-fn a_unique_index_refuses(rt: HostRuntime) -> Result<(), Fail> {
-    let text = told_of_new::<FlatTables>(&rt, rt.alloc(), true, &OF_A_UNIQUE_INDEX)?;
+fn a_unique_index_refuses(rt: HostRuntime) {
+    let text = told_of_new::<FlatTables>(&rt, rt.alloc(), true, &OF_A_UNIQUE_INDEX);
     assert_eq!(rt;
         text.as_str(),
         "0 1 ! ! 1 2 1:1 2:2 | 1:2 2:1 | 3 / 1 ! 1:1 2:2 | 1:2 2:1 | 3 / "
     );
-    Ok(())
 }
 
 const OF_INDEXES: [Step; 9] = [
@@ -436,13 +429,12 @@ const OF_INDEXES: [Step; 9] = [
 
 /// Two records of one key break an index that would be unique; another one comes and goes.
 #[test]
-fn an_index_comes_and_goes(rt: HostRuntime) -> Result<(), Fail> {
-    let text = told_of_new::<FlatTables>(&rt, rt.alloc(), false, &OF_INDEXES)?;
+fn an_index_comes_and_goes(rt: HostRuntime) {
+    let text = told_of_new::<FlatTables>(&rt, rt.alloc(), false, &OF_INDEXES);
     assert_eq!(rt;
         text.as_str(),
         "1 2 1 0 1:1 2:2 | 1:1 1:2 | 1 / 1 properties - 1:1 2:2 | | 1 / "
     );
-    Ok(())
 }
 
 const OF_MARKS: [Step; 25] = [
@@ -476,8 +468,8 @@ const OF_MARKS: [Step; 25] = [
 /// What came, went, was replaced, cleared and counted since a mark is undone, also within another mark, and in the end to
 /// the last settle with its number.
 #[test]
-fn changes_are_undone(rt: HostRuntime) -> Result<(), Fail> {
-    let text = told_of_new::<FlatTables>(&rt, rt.alloc(), true, &OF_MARKS)?;
+fn changes_are_undone(rt: HostRuntime) {
+    let text = told_of_new::<FlatTables>(&rt, rt.alloc(), true, &OF_MARKS);
     assert_eq!(rt;
         text.as_str(),
         concat!(
@@ -485,7 +477,6 @@ fn changes_are_undone(rt: HostRuntime) -> Result<(), Fail> {
             "1:1 2:2 | 4:2 7:1 | 3 / 2 3 1:1 2:2 | 6:2 7:1 | 3 / "
         )
     );
-    Ok(())
 }
 
 const OF_NUMBERS: [Step; 9] = [
@@ -502,8 +493,8 @@ const OF_NUMBERS: [Step; 9] = [
 
 /// Numbers count up, pass the keys that are given, and end.
 #[test]
-fn numbers_are_given(rt: HostRuntime) -> Result<(), Fail> {
-    let text = told_of_new::<FlatTables>(&rt, rt.alloc(), true, &OF_NUMBERS)?;
+fn numbers_are_given(rt: HostRuntime) {
+    let text = told_of_new::<FlatTables>(&rt, rt.alloc(), true, &OF_NUMBERS);
     assert_eq!(rt;
         text.as_str(),
         concat!(
@@ -511,19 +502,18 @@ fn numbers_are_given(rt: HostRuntime) -> Result<(), Fail> {
             "1:1 3:3 8:8 9:9 9007199254740992:9007199254740992 | | 9007199254740993 / "
         )
     );
-    Ok(())
 }
 
 /// A store whose keys stand in the values.
-fn store_of_path<T: Tables>(alloc: Global) -> Result<StoreVersion<T>, Fail> {
-    let path = path(alloc, "e")?;
+fn store_of_path<T: Tables>(rt: &impl Abort, alloc: Global) -> StoreVersion<T> {
+    let path = path(rt, alloc, "e");
     let info = StoreInfo {
-        name: Text::copy_of(alloc, "s")?,
+        name: Text::copy_of(alloc, "s").expect(rt, "memory"),
         path: Some(path),
         auto: true,
         indexes: IndexInfos::new(alloc),
     };
-    Ok(StoreVersion::new(alloc, info))
+    StoreVersion::new(alloc, info)
 }
 
 const OF_A_PATH: [Step; 6] = [
@@ -537,13 +527,12 @@ const OF_A_PATH: [Step; 6] = [
 
 /// A key that stands at the path is taken, and a number is put there where none does.
 #[test]
-fn keys_stand_in_values(rt: HostRuntime) -> Result<(), Fail> {
-    let text = told_of_path::<FlatTables>(&rt, rt.alloc(), &OF_A_PATH)?;
+fn keys_stand_in_values(rt: HostRuntime) {
+    let text = told_of_path::<FlatTables>(&rt, rt.alloc(), &OF_A_PATH);
     assert_eq!(rt;
         text.as_str(),
         "0 3 4 5 1 properties 3:3 4:4 5:5 | 3:3 4:4 5:5 | 6 / "
     );
-    Ok(())
 }
 
 /// Ten thousand records, whose `e` is so much more than their keys.
@@ -553,11 +542,10 @@ fn put_many<T: Tables>(
     store: &mut StoreVersion<T>,
     more: i64,
     add: bool,
-) -> Result<(), Fail> {
+) {
     for key in 0..10_000i64 {
-        put_one(rt, alloc, store, (key, key.wrapping_add(more)), add)?;
+        put_one(rt, alloc, store, (key, key.wrapping_add(more)), add);
     }
-    Ok(())
 }
 
 fn put_one<T: Tables>(
@@ -566,54 +554,55 @@ fn put_one<T: Tables>(
     store: &mut StoreVersion<T>,
     (key, e): (i64, i64),
     add: bool,
-) -> Result<(), Fail> {
-    let value = object(rt, alloc, e)?;
-    let _ = put(store, value, key, add)?;
-    Ok(())
+) {
+    let value = object(rt, alloc, e);
+    let _ = put(rt, store, value, key, add);
 }
 
 /// The store of ten thousand records, to which their first values are back.
-fn ten_thousand<T: Tables>(rt: &impl Abort, alloc: Global) -> Result<StoreVersion<T>, Fail> {
-    let mut store: StoreVersion<T> = new_store(alloc, false)?;
-    let _ = add_index(alloc, &mut store, false)?;
-    put_many(rt, alloc, &mut store, 0, true)?;
+fn ten_thousand<T: Tables>(rt: &impl Abort, alloc: Global) -> StoreVersion<T> {
+    let mut store: StoreVersion<T> = new_store(rt, alloc, false);
+    let _ = add_index(rt, alloc, &mut store, false);
+    put_many(rt, alloc, &mut store, 0, true);
     store.settle();
-    put_many(rt, alloc, &mut store, 1, false)?;
-    store.clear()?;
+    put_many(rt, alloc, &mut store, 1, false);
+    store.clear().expect(rt, "memory");
     store.undo_all();
-    Ok(store)
+    store
 }
 
 /// The row of the index at this place.
 fn push_row_at<T: Tables>(
+    rt: &impl Abort,
     text: &mut String,
     store: &StoreVersion<T>,
     place: usize,
-) -> Result<(), Fail> {
+) {
     match store.row(Over::Index(0), place) {
-        Some((Key::Number(key), Key::Number(primary))) => Ok(write!(text, "{key}:{primary} ")?),
-        _ => push(text, "- "),
+        Some((Key::Number(key), Key::Number(primary))) => write!(text, "{key}:{primary} ").expect(
+            rt, "memory",
+        ),
+        _ => push(rt, text, "- "),
     }
 }
 
 /// The first row of the index, the last one, and the one behind it.
-fn push_ends<T: Tables>(alloc: Global, store: &StoreVersion<T>) -> Result<String, Fail> {
+fn push_ends<T: Tables>(rt: &impl Abort, alloc: Global, store: &StoreVersion<T>) -> String {
     let mut text = String::new(alloc);
     for place in [0, 9_999, 10_000] {
-        push_row_at(&mut text, store, place)?;
+        push_row_at(rt, &mut text, store, place);
     }
-    Ok(text)
+    text
 }
 
-fn told_of_ten_thousand<T: Tables>(rt: &impl Abort, alloc: Global) -> Result<String, Fail> {
-    let store: StoreVersion<T> = ten_thousand(rt, alloc)?;
-    push_ends(alloc, &store)
+fn told_of_ten_thousand<T: Tables>(rt: &impl Abort, alloc: Global) -> String {
+    let store: StoreVersion<T> = ten_thousand(rt, alloc);
+    push_ends(rt, alloc, &store)
 }
 
 /// Ten thousand records come, get another value, go, and are back.
 #[test]
-fn ten_thousand_come_back(rt: HostRuntime) -> Result<(), Fail> {
-    let text = told_of_ten_thousand::<FlatTables>(&rt, rt.alloc())?;
+fn ten_thousand_come_back(rt: HostRuntime) {
+    let text = told_of_ten_thousand::<FlatTables>(&rt, rt.alloc());
     assert_eq!(rt; text.as_str(), "0:0 9999:9999 - ");
-    Ok(())
 }

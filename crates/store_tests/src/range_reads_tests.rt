@@ -1,5 +1,5 @@
 use clone_values::{Key, PathSpec, Text, Value};
-use idb_base::{GREATEST_LENGTH, NoMemory};
+use idb_base::GREATEST_LENGTH;
 use idb_keys::{KeyRange, Over};
 use idb_schema::{IndexInfo, IndexInfos, StoreInfo};
 use index_tables::{FlatTables, Tables};
@@ -7,79 +7,77 @@ use indexed_records::IndexedRecords;
 use path_grammar::KeyPath;
 use range_reads::*;
 use std::alloc::Global;
-use std::test::Fail;
+use std::process::Abort;
 
 /// A bound's key, and whether it is open.
 type Place = Option<(i64, bool)>;
 
-fn text_value(alloc: Global, s: &str) -> Result<Value, Fail> {
-    if s.len() > GREATEST_LENGTH {
-        return Err(Fail::new("a long text"));
-    }
-    Ok(Value::Text(Text::copy_of(alloc, s)?))
+fn text_value(rt: &impl Abort, alloc: Global, s: &str) -> Value {
+    assert!(rt; s.len() <= GREATEST_LENGTH);
+    Value::Text(Text::copy_of(alloc, s).expect(rt, "memory"))
 }
 
 /// Puts a new record in.
-fn put<T: Tables>(store: &mut IndexedRecords<T>, key: Key, value: Value) -> Result<(), NoMemory> {
-    let rows = store.rows_for(&key, &value)?;
+fn put<T: Tables>(rt: &impl Abort, store: &mut IndexedRecords<T>, key: Key, value: Value) {
+    let rows = store.rows_for(&key, &value).expect(rt, "memory");
     if let Err(place) = store.find(&key) {
-        store.reserve(1, rows.count())?;
+        store.reserve(1, rows.count()).expect(rt, "memory");
         store.put_at(place, key, value, rows);
     }
-    Ok(())
 }
 
-fn length_path(alloc: Global) -> Result<KeyPath, Fail> {
-    let length = Text::copy_of(alloc, "length")?;
-    Ok(KeyPath::parse(PathSpec::One(length))?)
+fn length_path(rt: &impl Abort, alloc: Global) -> KeyPath {
+    let length = Text::copy_of(alloc, "length").expect(rt, "memory");
+    KeyPath::parse(PathSpec::One(length)).expect(rt, "a path")
 }
 
-fn by_length(alloc: Global) -> Result<IndexInfo, Fail> {
-    let path = length_path(alloc)?;
-    let name = Text::copy_of(alloc, "by length")?;
-    Ok(IndexInfo {
+fn by_length(rt: &impl Abort, alloc: Global) -> IndexInfo {
+    let path = length_path(rt, alloc);
+    let name = Text::copy_of(alloc, "by length").expect(rt, "memory");
+    IndexInfo {
         name,
         path,
         unique: false,
         multi: false,
-    })
+    }
 }
 
-fn one_index(alloc: Global) -> Result<IndexInfos, Fail> {
+fn one_index(rt: &impl Abort, alloc: Global) -> IndexInfos {
     let mut indexes = IndexInfos::new(alloc);
-    indexes.push(by_length(alloc)?)?;
-    Ok(indexes)
+    indexes.push(by_length(rt, alloc)).expect(rt, "memory");
+    indexes
 }
 
 /// A store whose one index takes the length of a text.
-fn new_store<T: Tables>(alloc: Global) -> Result<IndexedRecords<T>, Fail> {
-    let indexes = one_index(alloc)?;
+fn new_store<T: Tables>(rt: &impl Abort, alloc: Global) -> IndexedRecords<T> {
+    let indexes = one_index(rt, alloc);
     let info = StoreInfo {
-        name: Text::copy_of(alloc, "texts")?,
+        name: Text::copy_of(alloc, "texts").expect(rt, "memory"),
         path: None,
         auto: false,
         indexes,
     };
-    Ok(IndexedRecords::new(alloc, info))
+    IndexedRecords::new(alloc, info)
 }
 
 fn put_text<T: Tables>(
+    rt: &impl Abort,
     alloc: Global,
     store: &mut IndexedRecords<T>,
     key: i64,
     s: &str,
-) -> Result<(), Fail> {
-    let value = text_value(alloc, s)?;
-    Ok(put(store, Key::Number(key), value)?)
+) {
+    let value = text_value(rt, alloc, s);
+    put(rt, store, Key::Number(key), value)
 }
 
 /// Four texts under numbers, whose one index takes the length of a text.
-fn four_texts<T: Tables>(alloc: Global) -> Result<IndexedRecords<T>, Fail> {
-    let mut store: IndexedRecords<T> = new_store(alloc)?;
+fn four_texts<T: Tables>(rt: &impl Abort, alloc: Global) -> IndexedRecords<T> {
+    let mut store: IndexedRecords<T> = new_store(rt, alloc);
     for (key, value) in [(10, "ab"), (20, "c"), (30, "de"), (40, "fgh")] {
-        put_text(alloc, &mut store, key, value)?;
+        put_text(rt, alloc, &mut store, key, value);
     }
-    Ok(store)
+    store
 }
 
 /// The range of these bounds; `None` where there are none, or where they exclude each other.
@@ -94,113 +92,118 @@ fn range_of(lower: Place, upper: Place) -> Option<KeyRange> {
     }
 }
 
-fn push_text(text: &mut String, value: Option<&Value>) -> Result<(), Fail> {
+fn push_text(rt: &impl Abort, text: &mut String, value: Option<&Value>) {
     match value {
-        Some(Value::Text(s)) => Ok(write!(text, " {}", s.as_str())?),
-        _ => push(text, " -"),
+        Some(Value::Text(s)) => write!(text, " {}", s.as_str()).expect(rt, "memory"),
+        _ => push(rt, text, " -"),
     }
 }
 
-fn push_key(text: &mut String, key: Option<&Key>) -> Result<(), Fail> {
+fn push_key(rt: &impl Abort, text: &mut String, key: Option<&Key>) {
     match key {
-        Some(Key::Number(n)) => Ok(write!(text, " {n}")?),
-        _ => push(text, " -"),
+        Some(Key::Number(n)) => write!(text, " {n}").expect(rt, "memory"),
+        _ => push(rt, text, " -"),
     }
 }
 
-fn push(text: &mut String, s: &str) -> Result<(), Fail> {
-    Ok(text.push_str(s)?)
+fn push(rt: &impl Abort, text: &mut String, s: &str) {
+    text.push_str(s).expect(rt, "memory")
 }
 
 fn push_count<T: Tables>(
+    rt: &impl Abort,
     text: &mut String,
     store: &IndexedRecords<T>,
     over: Over,
     range: Option<&KeyRange>,
-) -> Result<(), Fail> {
-    Ok(write!(text, "{}:", count(store, over, range))?)
+) {
+    write!(text, "{}:", count(store, over, range)).expect(rt, "memory")
 }
 
 /// The keys of a range, or of the first so many.
 fn push_keys<T: Tables>(
+    rt: &impl Abort,
     alloc: Global,
     text: &mut String,
     store: &IndexedRecords<T>,
     over: Over,
     range: Option<&KeyRange>,
     limit: u32,
-) -> Result<(), Fail> {
-    let keys = get_all_keys(alloc, store, over, range, limit)?;
+) {
+    let keys = get_all_keys(alloc, store, over, range, limit).expect(rt, "memory");
     for place in 0..keys.len() {
-        push_key(text, keys.at(place))?;
+        push_key(rt, text, keys.at(place));
     }
-    Ok(())
 }
 
 /// The values of a range, or of the first so many.
 fn push_values<T: Tables>(
+    rt: &impl Abort,
     alloc: Global,
     text: &mut String,
     store: &IndexedRecords<T>,
     over: Over,
     range: Option<&KeyRange>,
     limit: u32,
-) -> Result<(), Fail> {
-    let items = get_all(alloc, store, over, range, limit)?;
+) {
+    let items = get_all(alloc, store, over, range, limit).expect(rt, "memory");
     for place in 0..items.len() {
-        push_text(text, items.at(place))?;
+        push_text(rt, text, items.at(place));
     }
-    Ok(())
 }
 
 /// The number, the keys and the values of a range, or of the first so many.
 fn push_all<T: Tables>(
+    rt: &impl Abort,
     alloc: Global,
     text: &mut String,
     store: &IndexedRecords<T>,
     over: Over,
     range: Option<&KeyRange>,
     limit: u32,
-) -> Result<(), Fail> {
-    push_count(text, store, over, range)?;
-    push_keys(alloc, text, store, over, range, limit)?;
-    push_values(alloc, text, store, over, range, limit)?;
-    push(text, " / ")
+) {
+    push_count(rt, text, store, over, range);
+    push_keys(rt, alloc, text, store, over, range, limit);
+    push_values(rt, alloc, text, store, over, range, limit);
+    push(rt, text, " / ")
 }
 
 fn push_first_key<T: Tables>(
+    rt: &impl Abort,
     alloc: Global,
     text: &mut String,
     store: &IndexedRecords<T>,
     over: Over,
     range: &KeyRange,
-) -> Result<(), Fail> {
-    let key = get_key(alloc, store, over, range)?;
-    push_key(text, key.as_ref())
+) {
+    let key = get_key(alloc, store, over, range).expect(rt, "memory");
+    push_key(rt, text, key.as_ref())
 }
 
 fn push_first_value<T: Tables>(
+    rt: &impl Abort,
     alloc: Global,
     text: &mut String,
     store: &IndexedRecords<T>,
     over: Over,
     range: &KeyRange,
-) -> Result<(), Fail> {
-    let value = get(alloc, store, over, range)?;
-    push_text(text, value.as_ref())
+) {
+    let value = get(alloc, store, over, range).expect(rt, "memory");
+    push_text(rt, text, value.as_ref())
 }
 
 /// The key and the value of the first of a range.
 fn push_first<T: Tables>(
+    rt: &impl Abort,
     alloc: Global,
     text: &mut String,
     store: &IndexedRecords<T>,
     over: Over,
     range: &KeyRange,
-) -> Result<(), Fail> {
-    push_first_key(alloc, text, store, over, range)?;
-    push_first_value(alloc, text, store, over, range)?;
-    push(text, " / ")
+) {
+    push_first_key(rt, alloc, text, store, over, range);
+    push_first_value(rt, alloc, text, store, over, range);
+    push(rt, text, " / ")
 }
 
 /// Where, the bounds, and the limit.
@@ -233,32 +236,32 @@ const READ: &str = concat!(
 
 /// Writes what is read of the range of these bounds.
 fn read_all<T: Tables>(
+    rt: &impl Abort,
     alloc: Global,
     text: &mut String,
     store: &IndexedRecords<T>,
     (over, lower, upper, limit): (Over, Place, Place, u32),
-) -> Result<(), Fail> {
+) {
     let range = range_of(lower, upper);
-    push_all(alloc, text, store, over, range.as_ref(), limit)
+    push_all(rt, alloc, text, store, over, range.as_ref(), limit)
 }
 
 /// What is read of each range.
-fn answers<T: Tables>(alloc: Global) -> Result<String, Fail> {
-    let store: IndexedRecords<T> = four_texts(alloc)?;
+fn answers<T: Tables>(rt: &impl Abort, alloc: Global) -> String {
+    let store: IndexedRecords<T> = four_texts(rt, alloc);
     let mut text = String::new(alloc);
     for row in &ROWS {
-        read_all(alloc, &mut text, &store, *row)?;
+        read_all(rt, alloc, &mut text, &store, *row);
     }
-    Ok(text)
+    text
 }
 
 /// Open and closed bounds, ranges past either end, limits, an index of which two rows have one key, and one that isn't
 /// there.
 #[test]
-fn ranges_are_read_as_stated(rt: HostRuntime) -> Result<(), Fail> {
-    let text = answers::<FlatTables>(rt.alloc())?;
+fn ranges_are_read_as_stated(rt: HostRuntime) {
+    let text = answers::<FlatTables>(&rt, rt.alloc());
     assert_eq!(rt; text.as_str(), READ);
-    Ok(())
 }
 
 /// Where, and the bounds.
@@ -276,42 +279,41 @@ static FIRST_ROWS: [(Over, Place, Place); 9] = [
 
 /// Writes what is read of the first of the range of these bounds.
 fn read_first<T: Tables>(
+    rt: &impl Abort,
     alloc: Global,
     text: &mut String,
     store: &IndexedRecords<T>,
     (over, lower, upper): (Over, Place, Place),
-) -> Result<(), Fail> {
+) {
     match range_of(lower, upper) {
-        Some(range) => push_first(alloc, text, store, over, &range),
-        None => Ok(()),
+        Some(range) => push_first(rt, alloc, text, store, over, &range),
+        None => {}
     }
 }
 
 /// What is read of the first of each range.
-fn first_answers<T: Tables>(alloc: Global) -> Result<String, Fail> {
-    let store: IndexedRecords<T> = four_texts(alloc)?;
+fn first_answers<T: Tables>(rt: &impl Abort, alloc: Global) -> String {
+    let store: IndexedRecords<T> = four_texts(rt, alloc);
     let mut text = String::new(alloc);
     for row in &FIRST_ROWS {
-        read_first(alloc, &mut text, &store, *row)?;
+        read_first(rt, alloc, &mut text, &store, *row);
     }
-    Ok(text)
+    text
 }
 
 /// The first of a range; over an index its primary key, and the value of that record.
 #[test]
-fn the_first_is_read_as_stated(rt: HostRuntime) -> Result<(), Fail> {
-    let text = first_answers::<FlatTables>(rt.alloc())?;
+fn the_first_is_read_as_stated(rt: HostRuntime) {
+    let text = first_answers::<FlatTables>(&rt, rt.alloc());
     assert_eq!(rt;
         text.as_str(),
         " 10 ab /  20 c /  - - /  - - /  - - /  10 ab /  40 fgh /  20 c /  - - / "
     );
-    Ok(())
 }
 
 /// Without bounds all records are in the range.
 #[test]
-fn all_records_are_spanned(rt: HostRuntime) -> Result<(), Fail> {
-    let store: IndexedRecords<FlatTables> = four_texts(rt.alloc())?;
+fn all_records_are_spanned(rt: HostRuntime) {
+    let store: IndexedRecords<FlatTables> = four_texts(&rt, rt.alloc());
     assert_eq!(rt; span(&store, Over::Store, None), (0, 4));
-    Ok(())
 }

@@ -1,5 +1,5 @@
 // Each kind of change made of a store with ample memory, and each refusal.
-ghost use Rattle.std.specs.Prelude.{◌≡◌, ℕ, List, IfOk};
+ghost use Rattle.std.specs.Prelude.{◌≡◌, ℕ, List};
 ghost use Rattle.clone_values.specs.declared.path_types.PathSpec.TheVariants.{One};
 
 use clone_values::{Key, PathSpec, Props, Text, Value, is_cloneable, is_int, well_formed};
@@ -11,7 +11,6 @@ use object_stores::StoreVersion;
 use path_grammar::KeyPath;
 use std::alloc::Global;
 use std::process::Abort;
-use std::test::Fail;
 use store_changes::{ChangeError, make_change};
 
 /// One change; a value is `{"e": e}`.
@@ -25,132 +24,134 @@ enum Step {
     DropIndex,
 }
 
-fn text(alloc: Global, s: &str) -> Result<Text, Fail>
-    ensures { IfOk result (λ t. t ≡ s.now) }
+fn text(rt: &impl Abort, alloc: Global, s: &str) -> Text
+    ensures { result ≡ s.now }
 {
-    if s.len() > GREATEST_LENGTH {
-        return Err(Fail::new("a long text"));
-    }
-    Ok(Text::copy_of(alloc, s)?)
+    assert!(rt; s.len() <= GREATEST_LENGTH);
+    Text::copy_of(alloc, s).expect(rt, "memory")
 }
 
 /// The Object with the one property `e`.
-fn object(rt: &impl Abort, alloc: Global, e: i64) -> Result<Value, Fail> {
+fn object(rt: &impl Abort, alloc: Global, e: i64) -> Value {
     let mut props = Props::new(alloc);
     assert!(rt; props.len() < 100);
-    props.set(text(alloc, "e")?, Value::Int(e))?;
-    Ok(Value::Object(props))
+    props
+        .set(text(rt, alloc, "e"), Value::Int(e))
+        .expect(rt, "memory");
+    Value::Object(props)
 }
 
 // ---- one change each
 fn put<T: Tables>(
+    rt: &impl Abort,
     alloc: Global,
     store: &mut StoreVersion<T>,
     key: i64,
     value: Value,
-) -> Result<Result<(), ChangeError>, Fail> {
-    if !well_formed(&value) || !is_cloneable(&value) || !is_int(key) {
-        return Err(Fail::new("no record"));
-    }
-    Ok(make_change(
+) -> Result<(), ChangeError> {
+    assert!(rt; well_formed(&value) && is_cloneable(&value) && is_int(key));
+    make_change(
         alloc,
         store,
         Delta::Put {
-            db: text(alloc, "d")?,
-            store: text(alloc, "s")?,
+            db: text(rt, alloc, "d"),
+            store: text(rt, alloc, "s"),
             key: Key::Number(key),
             value,
         },
-    ))
+    )
 }
 
-fn path(alloc: Global) -> Result<KeyPath, Fail>
-    ensures { IfOk result (λ p. (name : List ℕ) × (p ≡ One name)) }
+fn path(rt: &impl Abort, alloc: Global) -> KeyPath
+    ensures { (name : List ℕ) × (result ≡ One name) }
 {
-    Ok(KeyPath::parse(PathSpec::One(text(alloc, "e")?))?)
+    KeyPath::parse(PathSpec::One(text(rt, alloc, "e"))).expect(rt, "a path")
 }
 
 fn make_index<T: Tables>(
+    rt: &impl Abort,
     alloc: Global,
     store: &mut StoreVersion<T>,
     unique: bool,
-) -> Result<Result<(), ChangeError>, Fail> {
-    Ok(make_change(
+) -> Result<(), ChangeError> {
+    make_change(
         alloc,
         store,
         Delta::CreateIndex {
-            db: text(alloc, "d")?,
-            store: text(alloc, "s")?,
-            index: text(alloc, "by e")?,
-            path: path(alloc)?,
+            db: text(rt, alloc, "d"),
+            store: text(rt, alloc, "s"),
+            index: text(rt, alloc, "by e"),
+            path: path(rt, alloc),
             unique,
             multi: false,
         },
-    ))
+    )
 }
 
 fn drop_index<T: Tables>(
+    rt: &impl Abort,
     alloc: Global,
     store: &mut StoreVersion<T>,
-) -> Result<Result<(), ChangeError>, Fail> {
-    Ok(make_change(
+) -> Result<(), ChangeError> {
+    make_change(
         alloc,
         store,
         Delta::DropIndex {
-            db: text(alloc, "d")?,
-            store: text(alloc, "s")?,
-            index: text(alloc, "by e")?,
+            db: text(rt, alloc, "d"),
+            store: text(rt, alloc, "s"),
+            index: text(rt, alloc, "by e"),
         },
-    ))
+    )
 }
 
 fn remove<T: Tables>(
+    rt: &impl Abort,
     alloc: Global,
     store: &mut StoreVersion<T>,
     key: i64,
-) -> Result<Result<(), ChangeError>, Fail> {
-    Ok(make_change(
+) -> Result<(), ChangeError> {
+    make_change(
         alloc,
         store,
         Delta::Remove {
-            db: text(alloc, "d")?,
-            store: text(alloc, "s")?,
+            db: text(rt, alloc, "d"),
+            store: text(rt, alloc, "s"),
             key: Key::Number(key),
         },
-    ))
+    )
 }
 
 fn clear<T: Tables>(
+    rt: &impl Abort,
     alloc: Global,
     store: &mut StoreVersion<T>,
-) -> Result<Result<(), ChangeError>, Fail> {
-    Ok(make_change(
+) -> Result<(), ChangeError> {
+    make_change(
         alloc,
         store,
         Delta::Clear {
-            db: text(alloc, "d")?,
-            store: text(alloc, "s")?,
+            db: text(rt, alloc, "d"),
+            store: text(rt, alloc, "s"),
         },
-    ))
+    )
 }
 
 fn set_current<T: Tables>(
+    rt: &impl Abort,
     alloc: Global,
     store: &mut StoreVersion<T>,
     current: u64,
-) -> Result<Result<(), ChangeError>, Fail> {
-    if current < 1 || current > 9007199254740993 {
-        return Err(Fail::new("no number"));
-    }
-    Ok(make_change(
+) -> Result<(), ChangeError> {
+    assert!(rt; current >= 1 && current <= 9007199254740993);
+    make_change(
         alloc,
         store,
         Delta::Current {
-            db: text(alloc, "d")?,
-            store: text(alloc, "s")?,
+            db: text(rt, alloc, "d"),
+            store: text(rt, alloc, "s"),
             current,
         },
-    ))
+    )
 }
 
 // ---- all of them
@@ -160,9 +161,9 @@ fn put_object<T: Tables>(
     store: &mut StoreVersion<T>,
     key: i64,
     e: i64,
-) -> Result<Result<(), ChangeError>, Fail> {
-    let value = object(rt, alloc, e)?;
-    put(alloc, store, key, value)
+) -> Result<(), ChangeError> {
+    let value = object(rt, alloc, e);
+    put(rt, alloc, store, key, value)
 }
 
 /// Makes the change.
@@ -171,14 +172,14 @@ fn change<T: Tables>(
     alloc: Global,
     store: &mut StoreVersion<T>,
     step: Step,
-) -> Result<Result<(), ChangeError>, Fail> {
+) -> Result<(), ChangeError> {
     match step {
         Step::Put(key, e) => put_object(rt, alloc, store, key, e),
-        Step::Remove(key) => remove(alloc, store, key),
-        Step::Clear => clear(alloc, store),
-        Step::Current(n) => set_current(alloc, store, n),
-        Step::MakeIndex(unique) => make_index(alloc, store, unique),
-        Step::DropIndex => drop_index(alloc, store),
+        Step::Remove(key) => remove(rt, alloc, store, key),
+        Step::Clear => clear(rt, alloc, store),
+        Step::Current(n) => set_current(rt, alloc, store, n),
+        Step::MakeIndex(unique) => make_index(rt, alloc, store, unique),
+        Step::DropIndex => drop_index(rt, alloc, store),
     }
 }
 
@@ -192,19 +193,20 @@ fn word(answer: Result<(), ChangeError>) -> &'static str {
     }
 }
 
-fn push(said: &mut String, s: &str) -> Result<(), Fail> {
-    Ok(said.push_str(s)?)
+fn push(rt: &impl Abort, said: &mut String, s: &str) {
+    said.push_str(s).expect(rt, "memory")
 }
 
 /// How many records and indexes there are, and the generator's number.
-fn push_store<T: Tables>(said: &mut String, store: &StoreVersion<T>) -> Result<(), Fail> {
-    Ok(write!(
+fn push_store<T: Tables>(rt: &impl Abort, said: &mut String, store: &StoreVersion<T>) {
+    write!(
         said,
         "{}:{}:{} ",
         store.len(),
         store.info().indexes.len(),
         store.current()
-    )?)
+    )
+    .expect(rt, "memory")
 }
 
 /// Makes the change, and writes the answer, how many records and indexes there are, and the generator's number.
@@ -214,35 +216,30 @@ fn run<T: Tables>(
     said: &mut String,
     store: &mut StoreVersion<T>,
     step: Step,
-) -> Result<(), Fail> {
-    let answer = change(rt, alloc, store, step)?;
-    push(said, word(answer))?;
-    push_store(said, store)
+) {
+    let answer = change(rt, alloc, store, step);
+    push(rt, said, word(answer));
+    push_store(rt, said, store)
 }
 
-fn new_store<T: Tables>(alloc: Global, auto: bool) -> Result<StoreVersion<T>, Fail> {
+fn new_store<T: Tables>(rt: &impl Abort, alloc: Global, auto: bool) -> StoreVersion<T> {
     let info = StoreInfo {
-        name: text(alloc, "s")?,
+        name: text(rt, alloc, "s"),
         path: None,
         auto,
         indexes: IndexInfos::new(alloc),
     };
-    Ok(StoreVersion::new(alloc, info))
+    StoreVersion::new(alloc, info)
 }
 
 /// What these changes of a new store answer, one behind the other.
-fn answers<T: Tables>(
-    rt: &impl Abort,
-    alloc: Global,
-    auto: bool,
-    steps: &[Step],
-) -> Result<String, Fail> {
-    let mut store: StoreVersion<T> = new_store(alloc, auto)?;
+fn answers<T: Tables>(rt: &impl Abort, alloc: Global, auto: bool, steps: &[Step]) -> String {
+    let mut store: StoreVersion<T> = new_store(rt, alloc, auto);
     let mut said = String::new(alloc);
     for step in steps {
-        run(rt, alloc, &mut said, &mut store, *step)?;
+        run(rt, alloc, &mut said, &mut store, *step);
     }
-    Ok(said)
+    said
 }
 
 const STEPS: [Step; 15] = [
@@ -269,18 +266,16 @@ const ANSWERS: &str =
 
 /// A put leaves the number as it is; what the store lacks is missing; a unique index refuses; and each change is made.
 #[test]
-fn each_change_is_made_or_refused(rt: HostRuntime) -> Result<(), Fail> {
-    let said = answers::<FlatTables>(&rt, rt.alloc(), true, &STEPS)?;
+fn each_change_is_made_or_refused(rt: HostRuntime) {
+    let said = answers::<FlatTables>(&rt, rt.alloc(), true, &STEPS);
     assert_eq!(rt; said.as_str(), ANSWERS);
-    Ok(())
 }
 
 const WITHOUT_GENERATOR: [Step; 2] = [Step::Put(1, 1), Step::Current(2)];
 
 /// A store without a generator has no number to set.
 #[test]
-fn a_plain_store_lacks_the_number(rt: HostRuntime) -> Result<(), Fail> {
-    let said = answers::<FlatTables>(&rt, rt.alloc(), false, &WITHOUT_GENERATOR)?;
+fn a_plain_store_lacks_the_number(rt: HostRuntime) {
+    let said = answers::<FlatTables>(&rt, rt.alloc(), false, &WITHOUT_GENERATOR);
     assert_eq!(rt; said.as_str(), "1:0:1 missing 1:0:1 ");
-    Ok(())
 }

@@ -1,11 +1,11 @@
 // Requests on a small store: what each answers, and the changes that it notes.
-ghost use Rattle.std.specs.Prelude.{◌≡◌, false, IfOk};
+ghost use Rattle.std.specs.Prelude.{◌≡◌, false};
 ghost use Rattle.clone_values.specs.declared.path_types.PathSpec.TheVariants.{One};
 
 use clone_values::{
     Items, Key, PathSpec, Prop, Props, Text, Value, is_cloneable, is_int, well_formed,
 };
-use idb_base::{GREATEST_LENGTH, NoMemory};
+use idb_base::GREATEST_LENGTH;
 use idb_calls::{Delta, Deltas};
 use idb_cursors::Cursor;
 use idb_keys::{Direction, KeyRange, Over};
@@ -16,7 +16,6 @@ use path_grammar::KeyPath;
 use std::alloc::Global;
 use std::fmt::Write;
 use std::process::Abort;
-use std::test::Fail;
 use store_requests::*;
 
 #[derive(Clone, Copy)]
@@ -34,51 +33,46 @@ enum Step {
     TurnKeys,
 }
 
-fn path(alloc: Global, s: &str) -> Result<KeyPath, Fail>
-    ensures { IfOk result (λ p. p ≡ One s.now) }
+fn path(rt: &impl Abort, alloc: Global, s: &str) -> KeyPath
+    ensures { result ≡ One s.now }
 {
-    if s.len() > GREATEST_LENGTH {
-        return Err(Fail::new("a long path"));
-    }
-    Ok(KeyPath::parse(PathSpec::One(Text::copy_of(alloc, s)?))?)
+    assert!(rt; s.len() <= GREATEST_LENGTH);
+    KeyPath::parse(PathSpec::One(Text::copy_of(alloc, s).expect(rt, "memory"))).expect(rt, "a path")
 }
 
-fn by_e(alloc: Global) -> Result<IndexInfo, Fail>
-    ensures { IfOk result (λ i. i.multi ≡ false) }
+fn by_e(rt: &impl Abort, alloc: Global) -> IndexInfo
+    ensures { result.multi ≡ false }
 {
-    let path = path(alloc, "e")?;
-    let name = Text::copy_of(alloc, "by e")?;
-    Ok(IndexInfo {
+    let path = path(rt, alloc, "e");
+    let name = Text::copy_of(alloc, "by e").expect(rt, "memory");
+    IndexInfo {
         name,
         path,
         unique: false,
         multi: false,
-    })
+    }
 }
 
-fn empty_store<T: Tables>(alloc: Global) -> Result<StoreVersion<T>, Fail> {
+fn empty_store<T: Tables>(rt: &impl Abort, alloc: Global) -> StoreVersion<T> {
     let info = StoreInfo {
-        name: Text::copy_of(alloc, "s")?,
+        name: Text::copy_of(alloc, "s").expect(rt, "memory"),
         path: None,
         auto: true,
         indexes: IndexInfos::new(alloc),
     };
-    Ok(StoreVersion::new(alloc, info))
+    StoreVersion::new(alloc, info)
 }
 
-fn index_by_e<T: Tables>(alloc: Global, store: &mut StoreVersion<T>) -> Result<(), Fail> {
-    let info = by_e(alloc)?;
-    if store.info().indexes.len() != 0 || store.add_index(info).is_err() {
-        return Err(Fail::new("no index"));
-    }
-    Ok(())
+fn index_by_e<T: Tables>(rt: &impl Abort, alloc: Global, store: &mut StoreVersion<T>) {
+    let info = by_e(rt, alloc);
+    assert!(rt; store.info().indexes.len() == 0 && store.add_index(info).is_ok());
 }
 
 /// A store with a generator and with an index by the property `e`.
-fn new_store<T: Tables>(alloc: Global) -> Result<StoreVersion<T>, Fail> {
-    let mut store: StoreVersion<T> = empty_store(alloc)?;
-    index_by_e(alloc, &mut store)?;
-    Ok(store)
+fn new_store<T: Tables>(rt: &impl Abort, alloc: Global) -> StoreVersion<T> {
+    let mut store: StoreVersion<T> = empty_store(rt, alloc);
+    index_by_e(rt, alloc, &mut store);
+    store
 }
 
 // ---- what is written of an answer
@@ -98,54 +92,50 @@ fn number(value: &Value) -> i64 {
     }
 }
 
-fn say_items(items: &Items, said: &mut String) -> Result<(), Fail> {
+fn say_items(rt: &impl Abort, items: &Items, said: &mut String) {
     for place in 0..items.len() {
         if let Some(item) = items.at(place) {
-            write!(said, "{},", number(item))?;
+            write!(said, "{},", number(item)).expect(rt, "memory");
         }
     }
-    Ok(())
 }
 
-fn say_props(props: &Props, said: &mut String) -> Result<(), Fail> {
+fn say_props(rt: &impl Abort, props: &Props, said: &mut String) {
     for place in 0..props.len() {
         if let Some(prop) = props.at(place) {
-            write!(said, "{}={},", prop.name.as_str(), number(&prop.value))?;
+            write!(said, "{}={},", prop.name.as_str(), number(&prop.value)).expect(rt, "memory");
         }
     }
-    Ok(())
 }
 
-fn say_array(items: &Items, said: &mut String) -> Result<(), Fail> {
-    said.push_str("[")?;
-    say_items(items, said)?;
-    said.push_str("] ")?;
-    Ok(())
+fn say_array(rt: &impl Abort, items: &Items, said: &mut String) {
+    said.push_str("[").expect(rt, "memory");
+    say_items(rt, items, said);
+    said.push_str("] ").expect(rt, "memory");
 }
 
-fn say_object(props: &Props, said: &mut String) -> Result<(), Fail> {
-    said.push_str("{")?;
-    say_props(props, said)?;
-    said.push_str("} ")?;
-    Ok(())
+fn say_object(rt: &impl Abort, props: &Props, said: &mut String) {
+    said.push_str("{").expect(rt, "memory");
+    say_props(rt, props, said);
+    said.push_str("} ").expect(rt, "memory");
 }
 
-fn say_number(n: i64, said: &mut String) -> Result<(), Fail> {
-    Ok(write!(said, "{n} ")?)
+fn say_number(rt: &impl Abort, n: i64, said: &mut String) {
+    write!(said, "{n} ").expect(rt, "memory")
 }
 
-fn say_text(text: &str, said: &mut String) -> Result<(), Fail> {
-    Ok(said.push_str(text)?)
+fn say_text(rt: &impl Abort, text: &str, said: &mut String) {
+    said.push_str(text).expect(rt, "memory")
 }
 
-fn say(value: &Value, said: &mut String) -> Result<(), Fail> {
+fn say(rt: &impl Abort, value: &Value, said: &mut String) {
     match value {
-        Value::Undefined => say_text("undefined ", said),
-        Value::Null => say_text("null ", said),
-        Value::Int(n) => say_number(*n, said),
-        Value::Array(items, _) => say_array(items, said),
-        Value::Object(props) => say_object(props, said),
-        _ => say_text("? ", said),
+        Value::Undefined => say_text(rt, "undefined ", said),
+        Value::Null => say_text(rt, "null ", said),
+        Value::Int(n) => say_number(rt, *n, said),
+        Value::Array(items, _) => say_array(rt, items, said),
+        Value::Object(props) => say_object(rt, props, said),
+        _ => say_text(rt, "? ", said),
     }
 }
 
@@ -156,67 +146,70 @@ fn shown(key: &Key) -> i64 {
     }
 }
 
-fn say_put(key: &Key, value: &Value, said: &mut String) -> Result<(), Fail> {
-    Ok(write!(said, "put {}={} ", shown(key), number(value))?)
+fn say_put(rt: &impl Abort, key: &Key, value: &Value, said: &mut String) {
+    write!(said, "put {}={} ", shown(key), number(value)).expect(rt, "memory")
 }
 
-fn say_remove(key: &Key, said: &mut String) -> Result<(), Fail> {
-    Ok(write!(said, "remove {} ", shown(key))?)
+fn say_remove(rt: &impl Abort, key: &Key, said: &mut String) {
+    write!(said, "remove {} ", shown(key)).expect(rt, "memory")
 }
 
-fn say_clear(db: &Text, store: &Text, said: &mut String) -> Result<(), Fail> {
-    Ok(write!(said, "clear {}.{} ", db.as_str(), store.as_str())?)
+fn say_clear(rt: &impl Abort, db: &Text, store: &Text, said: &mut String) {
+    write!(said, "clear {}.{} ", db.as_str(), store.as_str()).expect(rt, "memory")
 }
 
-fn say_current(current: u64, said: &mut String) -> Result<(), Fail> {
-    Ok(write!(said, "current {current} ")?)
+fn say_current(rt: &impl Abort, current: u64, said: &mut String) {
+    write!(said, "current {current} ").expect(rt, "memory")
 }
 
-fn say_change(change: Option<&Delta>, said: &mut String) -> Result<(), Fail> {
+fn say_change(rt: &impl Abort, change: Option<&Delta>, said: &mut String) {
     match change {
-        Some(Delta::Put { key, value, .. }) => say_put(key, value, said),
-        Some(Delta::Remove { key, .. }) => say_remove(key, said),
-        Some(Delta::Clear { db, store }) => say_clear(db, store, said),
-        Some(Delta::Current { current, .. }) => say_current(*current, said),
-        _ => say_text("? ", said),
+        Some(Delta::Put { key, value, .. }) => say_put(rt, key, value, said),
+        Some(Delta::Remove { key, .. }) => say_remove(rt, key, said),
+        Some(Delta::Clear { db, store }) => say_clear(rt, db, store, said),
+        Some(Delta::Current { current, .. }) => say_current(rt, *current, said),
+        _ => say_text(rt, "? ", said),
     }
 }
 
-fn say_changes(changes: &Deltas, said: &mut String) -> Result<(), Fail> {
+fn say_changes(rt: &impl Abort, changes: &Deltas, said: &mut String) {
     for place in 0..changes.len() {
-        say_change(changes.at(place), said)?;
+        say_change(rt, changes.at(place), said);
     }
-    Ok(())
 }
 
 // ---- one request each
-fn object(rt: &impl Abort, alloc: Global, e: i64) -> Result<Value, Fail> {
+fn object(rt: &impl Abort, alloc: Global, e: i64) -> Value {
     let mut props = Props::new(alloc);
     assert!(rt; props.len() < 100);
-    props.set(Text::copy_of(alloc, "e")?, Value::Int(e))?;
-    Ok(Value::Object(props))
+    props
+        .set(
+            Text::copy_of(alloc, "e").expect(rt, "memory"),
+            Value::Int(e),
+        )
+        .expect(rt, "memory");
+    Value::Object(props)
 }
 
-fn names(alloc: Global) -> Result<StoreNames, NoMemory> {
-    Ok(StoreNames {
-        database: Text::copy_of(alloc, "d")?,
-        store: Text::copy_of(alloc, "s")?,
-    })
+fn names(rt: &impl Abort, alloc: Global) -> StoreNames {
+    StoreNames {
+        database: Text::copy_of(alloc, "d").expect(rt, "memory"),
+        store: Text::copy_of(alloc, "s").expect(rt, "memory"),
+    }
 }
 
 fn put<T: Tables>(
+    rt: &impl Abort,
     alloc: Global,
     store: &mut StoreVersion<T>,
     value: Value,
     key: i64,
     add: bool,
     changes: &mut Deltas,
-) -> Result<Result<Value, StoreError>, Fail> {
-    if !well_formed(&value) || !is_cloneable(&value) || !is_int(key) {
-        return Err(Fail::new("no record"));
-    }
-    let names = names(alloc)?;
-    Ok(put_record(
+) -> Result<Value, StoreError> {
+    assert!(rt; well_formed(&value) && is_cloneable(&value) && is_int(key));
+    let names = names(rt, alloc);
+    put_record(
         alloc,
         store,
         &names,
@@ -224,33 +217,35 @@ fn put<T: Tables>(
         Some(Key::Number(key)),
         add,
         changes,
-    ))
+    )
 }
 
-fn between(lower: i64, upper: i64) -> Result<KeyRange, Fail> {
+fn between(rt: &impl Abort, lower: i64, upper: i64) -> KeyRange {
     match KeyRange::bound(Key::Number(lower), Key::Number(upper), false, false) {
-        Ok(range) => Ok(range),
-        Err(_) => Err(Fail::new("no range")),
+        Ok(range) => range,
+        Err(_) => panic!(rt; "no range"),
     }
 }
 
 fn delete<T: Tables>(
+    rt: &impl Abort,
     alloc: Global,
     store: &mut StoreVersion<T>,
     range: &KeyRange,
     changes: &mut Deltas,
-) -> Result<Value, NoMemory> {
-    let names = names(alloc)?;
-    delete_records(alloc, store, &names, range, changes)
+) -> Value {
+    let names = names(rt, alloc);
+    delete_records(alloc, store, &names, range, changes).expect(rt, "memory")
 }
 
 fn clear<T: Tables>(
+    rt: &impl Abort,
     alloc: Global,
     store: &mut StoreVersion<T>,
     changes: &mut Deltas,
-) -> Result<Value, NoMemory> {
-    let names = names(alloc)?;
-    clear_store(alloc, store, &names, changes)
+) -> Value {
+    let names = names(rt, alloc);
+    clear_store(alloc, store, &names, changes).expect(rt, "memory")
 }
 
 // ---- what each request answers
@@ -262,109 +257,121 @@ fn say_stored<T: Tables>(
     (key, e, add): (i64, i64, bool),
     changes: &mut Deltas,
     said: &mut String,
-) -> Result<(), Fail> {
-    let value = object(rt, alloc, e)?;
-    match put(alloc, store, value, key, add, changes)? {
-        Ok(value) => say(&value, said),
-        Err(_) => say_text("! ", said),
+) {
+    let value = object(rt, alloc, e);
+    match put(rt, alloc, store, value, key, add, changes) {
+        Ok(value) => say(rt, &value, said),
+        Err(_) => say_text(rt, "! ", said),
     }
 }
 
 fn say_deleted<T: Tables>(
+    rt: &impl Abort,
     alloc: Global,
     store: &mut StoreVersion<T>,
     (lower, upper): (i64, i64),
     changes: &mut Deltas,
     said: &mut String,
-) -> Result<(), Fail> {
-    let range = between(lower, upper)?;
-    let value = delete(alloc, store, &range, changes)?;
-    say(&value, said)
+) {
+    let range = between(rt, lower, upper);
+    let value = delete(rt, alloc, store, &range, changes);
+    say(rt, &value, said)
 }
 
 fn say_cleared<T: Tables>(
+    rt: &impl Abort,
     alloc: Global,
     store: &mut StoreVersion<T>,
     changes: &mut Deltas,
     said: &mut String,
-) -> Result<(), Fail> {
-    let value = clear(alloc, store, changes)?;
-    say(&value, said)
+) {
+    let value = clear(rt, alloc, store, changes);
+    say(rt, &value, said)
 }
 
 fn say_got<T: Tables>(
+    rt: &impl Abort,
     store: &StoreVersion<T>,
     (lower, upper): (i64, i64),
     said: &mut String,
-) -> Result<(), Fail> {
-    let range = between(lower, upper)?;
-    let value = get_value(store, Over::Index(0), &range)?;
-    say(&value, said)
+) {
+    let range = between(rt, lower, upper);
+    let value = get_value(store, Over::Index(0), &range).expect(rt, "memory");
+    say(rt, &value, said)
 }
 
 fn say_key<T: Tables>(
+    rt: &impl Abort,
     alloc: Global,
     store: &StoreVersion<T>,
     (lower, upper): (i64, i64),
     said: &mut String,
-) -> Result<(), Fail> {
-    let range = between(lower, upper)?;
-    let value = get_key(alloc, store, Over::Index(0), &range)?;
-    say(&value, said)
+) {
+    let range = between(rt, lower, upper);
+    let value = get_key(alloc, store, Over::Index(0), &range).expect(rt, "memory");
+    say(rt, &value, said)
 }
 
 fn say_all<T: Tables>(
+    rt: &impl Abort,
     alloc: Global,
     store: &StoreVersion<T>,
     limit: u32,
     said: &mut String,
-) -> Result<(), Fail> {
-    let value = get_all_values(alloc, store, Over::Store, &KeyRange::all(), limit)?;
-    say(&value, said)
+) {
+    let value = get_all_values(alloc, store, Over::Store, &KeyRange::all(), limit).expect(
+        rt, "memory",
+    );
+    say(rt, &value, said)
 }
 
 fn say_all_keys<T: Tables>(
+    rt: &impl Abort,
     alloc: Global,
     store: &StoreVersion<T>,
     limit: u32,
     said: &mut String,
-) -> Result<(), Fail> {
-    let value = get_all_keys(alloc, store, Over::Index(0), &KeyRange::all(), limit)?;
-    say(&value, said)
+) {
+    let value = get_all_keys(alloc, store, Over::Index(0), &KeyRange::all(), limit).expect(
+        rt, "memory",
+    );
+    say(rt, &value, said)
 }
 
-fn say_count<T: Tables>(store: &StoreVersion<T>, said: &mut String) -> Result<(), Fail> {
+fn say_count<T: Tables>(rt: &impl Abort, store: &StoreVersion<T>, said: &mut String) {
     let value = count_records(store, Over::Store, &KeyRange::all());
-    say(&value, said)
+    say(rt, &value, said)
 }
 
 fn say_turn<T: Tables>(
+    rt: &impl Abort,
     alloc: Global,
     store: &StoreVersion<T>,
     cursor: &mut Cursor,
     count: u32,
     said: &mut String,
-) -> Result<(), Fail> {
+) {
     if count > 0 {
-        let value = turn_cursor(alloc, store, cursor.over(), cursor, None, None, count)?;
-        say(&value, said)?;
+        let value = turn_cursor(alloc, store, cursor.over(), cursor, None, None, count).expect(
+            rt, "memory",
+        );
+        say(rt, &value, said);
     }
-    Ok(())
 }
 
 /// Three turns of a new cursor over the index.
 fn turn<T: Tables>(
+    rt: &impl Abort,
     alloc: Global,
     store: &StoreVersion<T>,
     keys_only: bool,
     count: u32,
     said: &mut String,
-) -> Result<(), Fail> {
+) {
     let mut cursor = Cursor::new(Over::Index(0), Direction::Next, None, keys_only);
     for _ in 0..3 {
-        say_turn(alloc, store, &mut cursor, count, said)?;
+        say_turn(rt, alloc, store, &mut cursor, count, said);
     }
-    Ok(())
 }
 
 /// Makes a request that changes the store.
@@ -375,32 +382,35 @@ fn run_writing<T: Tables>(
     store: &mut StoreVersion<T>,
     changes: &mut Deltas,
     said: &mut String,
-) -> Result<(), Fail> {
+) {
     match step {
         Step::Put(key, e) => say_stored(rt, alloc, store, (key, e, false), changes, said),
         Step::Add(key, e) => say_stored(rt, alloc, store, (key, e, true), changes, said),
-        Step::Delete(lower, upper) => { say_deleted(alloc, store, (lower, upper), changes, said) }
-        Step::Clear => say_cleared(alloc, store, changes, said),
-        _ => run_reading(alloc, step, store, said),
+        Step::Delete(lower, upper) => {
+            say_deleted(rt, alloc, store, (lower, upper), changes, said)
+        }
+        Step::Clear => say_cleared(rt, alloc, store, changes, said),
+        _ => run_reading(rt, alloc, step, store, said),
     }
 }
 
 /// Makes a request that reads, or turns a cursor.
 fn run_reading<T: Tables>(
+    rt: &impl Abort,
     alloc: Global,
     step: Step,
     store: &StoreVersion<T>,
     said: &mut String,
-) -> Result<(), Fail> {
+) {
     match step {
-        Step::Get(lower, upper) => say_got(store, (lower, upper), said),
-        Step::GetKey(lower, upper) => say_key(alloc, store, (lower, upper), said),
-        Step::GetAll(limit) => say_all(alloc, store, limit, said),
-        Step::GetAllKeys(limit) => say_all_keys(alloc, store, limit, said),
-        Step::Count => say_count(store, said),
-        Step::Turn(count) => turn(alloc, store, false, count, said),
-        Step::TurnKeys => turn(alloc, store, true, 1, said),
-        _ => Err(Fail::new("no reading request")),
+        Step::Get(lower, upper) => say_got(rt, store, (lower, upper), said),
+        Step::GetKey(lower, upper) => say_key(rt, alloc, store, (lower, upper), said),
+        Step::GetAll(limit) => say_all(rt, alloc, store, limit, said),
+        Step::GetAllKeys(limit) => say_all_keys(rt, alloc, store, limit, said),
+        Step::Count => say_count(rt, store, said),
+        Step::Turn(count) => turn(rt, alloc, store, false, count, said),
+        Step::TurnKeys => turn(rt, alloc, store, true, 1, said),
+        _ => panic!(rt; "no reading request"),
     }
 }
 
@@ -410,11 +420,11 @@ fn run<T: Tables>(
     step: Step,
     store: &mut StoreVersion<T>,
     said: &mut String,
-) -> Result<(), Fail> {
+) {
     let mut changes = Deltas::new(alloc);
-    run_writing(rt, alloc, step, store, &mut changes, said)?;
-    say_changes(&changes, said)?;
-    say_text("\n", said)
+    run_writing(rt, alloc, step, store, &mut changes, said);
+    say_changes(rt, &changes, said);
+    say_text(rt, "\n", said)
 }
 
 const STEPS: [Step; 20] = [
@@ -461,18 +471,17 @@ undefined remove 5 remove 9 \n\
 undefined clear d.s \n\
 undefined clear d.s \n";
 
-fn answers<T: Tables>(rt: &impl Abort, alloc: Global) -> Result<String, Fail> {
-    let mut store: StoreVersion<T> = new_store(alloc)?;
+fn answers<T: Tables>(rt: &impl Abort, alloc: Global) -> String {
+    let mut store: StoreVersion<T> = new_store(rt, alloc);
     let mut said = String::new(alloc);
     for step in STEPS {
-        run(rt, alloc, step, &mut store, &mut said)?;
+        run(rt, alloc, step, &mut store, &mut said);
     }
-    Ok(said)
+    said
 }
 
 #[test]
-fn requests_answer_and_note_their_changes(rt: HostRuntime) -> Result<(), Fail> {
-    let said = answers::<FlatTables>(&rt, rt.alloc())?;
+fn requests_answer_and_note_their_changes(rt: HostRuntime) {
+    let said = answers::<FlatTables>(&rt, rt.alloc());
     assert_eq!(rt; said.as_str(), SAID);
-    Ok(())
 }

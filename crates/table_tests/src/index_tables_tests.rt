@@ -1,13 +1,12 @@
 ghost use Rattle.std.specs.Prelude.{◌≡◌, ◌<◌};
 
 use clone_values::{Key, Keys, Text};
-use idb_base::NoMemory;
 use index_tables::*;
 use sorted_table::{OrderedTable, Steps};
 use std::alloc::Global;
 use std::marker::Brand;
+use std::process::Abort;
 use std::sync::ledger::{Blank, Ledger};
-use std::test::Fail;
 
 fn row(key: i64, primary: i64) -> Row {
     Row {
@@ -17,59 +16,61 @@ fn row(key: i64, primary: i64) -> Row {
 }
 
 /// Adds the row if it is not there; whether it did.
-fn put<T: Tables>(alloc: Global, index: &mut IndexTable<T>, row: Row) -> Result<bool, NoMemory> {
+fn put<T: Tables>(rt: &impl Abort, alloc: Global, index: &mut IndexTable<T>, row: Row) -> bool {
     let is_new = !index.has(&row);
     let mut rows = Rows::new(alloc);
-    rows.push(row)?;
-    index.reserve(1)?;
+    rows.push(row).expect(rt, "memory");
+    index.reserve(1).expect(rt, "memory");
     index.add_rows(rows);
-    Ok(is_new)
+    is_new
 }
 
 /// Puts these rows of one record in place of those.
 fn replace<T: Tables>(
+    rt: &impl Abort,
     alloc: Global,
     index: &mut IndexTable<T>,
     old: &[i64],
     new: &[i64],
-) -> Result<(), NoMemory> {
-    let old = rows_of(alloc, old)?;
-    let new = rows_of(alloc, new)?;
-    index.reserve(new.len())?;
+) {
+    let old = rows_of(rt, alloc, old);
+    let new = rows_of(rt, alloc, new);
+    index.reserve(new.len()).expect(rt, "memory");
     index.replace_rows(&old, new);
-    Ok(())
 }
 
 /// The rows of the record 5 with these index keys.
-fn rows_of(alloc: Global, keys: &[i64]) -> Result<Rows, NoMemory> {
+fn rows_of(rt: &impl Abort, alloc: Global, keys: &[i64]) -> Rows {
     let mut rows = Rows::new(alloc);
     for key in keys {
-        rows.push(row(*key, 5))?;
+        rows.push(row(*key, 5)).expect(rt, "memory");
     }
-    Ok(rows)
+    rows
 }
 
 /// Removes the row.
-fn take<T: Tables>(alloc: Global, index: &mut IndexTable<T>, row: Row) -> Result<(), NoMemory> {
+fn take<T: Tables>(rt: &impl Abort, alloc: Global, index: &mut IndexTable<T>, row: Row) {
     let mut rows = Rows::new(alloc);
-    rows.push(row)?;
+    rows.push(row).expect(rt, "memory");
     index.remove_rows(&rows);
-    Ok(())
 }
 
 /// The rows of numbers, as `key:primary`.
-fn listing<T: Tables>(alloc: Global, index: &IndexTable<T>) -> Result<String, Fail> {
+fn listing<T: Tables>(rt: &impl Abort, alloc: Global, index: &IndexTable<T>) -> String {
     let mut shown = String::new(alloc);
     for place in 0..index.len() {
         match index.row(place) {
             Some(row) => match (&row.key, &row.primary) {
-                (Key::Number(key), Key::Number(primary)) => write!(shown, "{key}:{primary} ")?,
-                _ => write!(shown, "? ")?,
+                (Key::Number(key), Key::Number(primary)) => write!(
+                    shown,
+                    "{key}:{primary} "
+                ).expect(rt, "memory"),
+                _ => write!(shown, "? ").expect(rt, "memory"),
             },
-            None => write!(shown, "- ")?,
+            None => write!(shown, "- ").expect(rt, "memory"),
         }
     }
-    Ok(shown)
+    shown
 }
 
 /// The place that `first_from` answers.
@@ -92,40 +93,38 @@ fn first_by<T: Tables, L: Ledger>(
 }
 
 /// Five rows of three index keys, added out of order.
-fn five_rows(alloc: Global) -> Result<IndexTable<FlatTables>, Fail> {
+fn five_rows(rt: &impl Abort, alloc: Global) -> IndexTable<FlatTables> {
     let mut index = IndexTable::new(alloc);
     for (key, primary) in [(20, 1), (10, 9), (20, 7), (30, 2), (10, 3), (20, 7)] {
-        let _ = put(alloc, &mut index, row(key, primary))?;
+        let _ = put(rt, alloc, &mut index, row(key, primary));
     }
-    Ok(index)
+    index
 }
 
 /// Rows stand by their index keys, and those of one index key by their primary keys .
 #[test]
-fn rows_stand_by_index_key_and_then_by_primary_key(rt: HostRuntime) -> Result<(), Fail> {
-    let index = five_rows(rt.alloc())?;
-    let shown = listing(rt.alloc(), &index)?;
+fn rows_stand_by_index_key_and_then_by_primary_key(rt: HostRuntime) {
+    let index = five_rows(&rt, rt.alloc());
+    let shown = listing(&rt, rt.alloc(), &index);
     assert_eq!(rt; shown.as_str(), "10:3 10:9 20:1 20:7 30:2 ");
     assert!(rt; index.row(5).is_none());
-    Ok(())
 }
 
 /// A removal takes the rows out that are there, and passes over the others.
 #[test]
-fn rows_are_removed(rt: HostRuntime) -> Result<(), Fail> {
-    let mut index = five_rows(rt.alloc())?;
-    take(rt.alloc(), &mut index, row(20, 1))?;
-    take(rt.alloc(), &mut index, row(20, 2))?;
-    let shown = listing(rt.alloc(), &index)?;
+fn rows_are_removed(rt: HostRuntime) {
+    let mut index = five_rows(&rt, rt.alloc());
+    take(&rt, rt.alloc(), &mut index, row(20, 1));
+    take(&rt, rt.alloc(), &mut index, row(20, 2));
+    let shown = listing(&rt, rt.alloc(), &index);
     assert_eq!(rt; shown.as_str(), "10:3 10:9 20:7 30:2 ");
-    Ok(())
 }
 
 /// A replacement leaves the rows of the new list in place of those of the old one, near or far, and all others.
 #[test]
-fn rows_are_replaced(rt: HostRuntime) -> Result<(), Fail> {
+fn rows_are_replaced(rt: HostRuntime) {
     let mut index: IndexTable<FlatTables> = IndexTable::new(rt.alloc());
-    let _ = put(rt.alloc(), &mut index, row(2, 4))?;
+    let _ = put(&rt, rt.alloc(), &mut index, row(2, 4));
     let mut shown = String::new(rt.alloc());
     let lists: [&[i64]; 6] = [
         &[],
@@ -136,8 +135,8 @@ fn rows_are_replaced(rt: HostRuntime) -> Result<(), Fail> {
         &[12, 20, 9],
     ];
     for place in 1..lists.len() {
-        replace(rt.alloc(), &mut index, lists[place - 1], lists[place])?;
-        write!(shown, "{}/ ", listing(rt.alloc(), &index)?)?;
+        replace(&rt, rt.alloc(), &mut index, lists[place - 1], lists[place]);
+        write!(shown, "{}/ ", listing(&rt, rt.alloc(), &index)).expect(&rt, "memory");
     }
     assert_eq!(rt;
         shown.as_str(),
@@ -146,26 +145,24 @@ fn rows_are_replaced(rt: HostRuntime) -> Result<(), Fail> {
             "0:5 1:5 2:4 2:5 3:5 4:5 5:5 6:5 7:5 8:5 9:5 11:5 12:5 / 2:4 9:5 12:5 20:5 / "
         )
     );
-    Ok(())
 }
 
 /// A copy has equal rows, and is changed alone.
 #[test]
-fn a_copy_has_equal_rows(rt: HostRuntime) -> Result<(), Fail> {
-    let index = five_rows(rt.alloc())?;
-    let mut copy = index.copy(rt.alloc())?;
-    take(rt.alloc(), &mut copy, row(30, 2))?;
-    let of_copy = listing(rt.alloc(), &copy)?;
+fn a_copy_has_equal_rows(rt: HostRuntime) {
+    let index = five_rows(&rt, rt.alloc());
+    let mut copy = index.copy(rt.alloc()).expect(&rt, "memory");
+    take(&rt, rt.alloc(), &mut copy, row(30, 2));
+    let of_copy = listing(&rt, rt.alloc(), &copy);
     assert_eq!(rt; of_copy.as_str(), "10:3 10:9 20:1 20:7 ");
-    let of_index = listing(rt.alloc(), &index)?;
+    let of_index = listing(&rt, rt.alloc(), &index);
     assert_eq!(rt; of_index.as_str(), "10:3 10:9 20:1 20:7 30:2 ");
-    Ok(())
 }
 
 /// Of these keys the first that a row has would break a unique index.
 #[test]
-fn the_first_key_had_is_told(rt: HostRuntime) -> Result<(), Fail> {
-    let index = five_rows(rt.alloc())?;
+fn the_first_key_had_is_told(rt: HostRuntime) {
+    let index = five_rows(&rt, rt.alloc());
     for (a, b, c, expected) in [
         (10, 20, 30, Some(0)),
         (11, 20, 30, Some(1)),
@@ -174,18 +171,17 @@ fn the_first_key_had_is_told(rt: HostRuntime) -> Result<(), Fail> {
         (25, 25, 20, Some(2)),
     ] {
         let mut keys = Keys::new(rt.alloc());
-        keys.push(Key::Number(a))?;
-        keys.push(Key::Number(b))?;
-        keys.push(Key::Number(c))?;
+        keys.push(Key::Number(a)).expect(&rt, "memory");
+        keys.push(Key::Number(b)).expect(&rt, "memory");
+        keys.push(Key::Number(c)).expect(&rt, "memory");
         assert_eq!(rt; index.would_break(&keys), expected);
     }
-    Ok(())
 }
 
 /// A bound leaves out the rows below it, and those of its own key if it is open.
 #[test]
-fn a_lower_bound_has_its_first_row(rt: HostRuntime) -> Result<(), Fail> {
-    let index = five_rows(rt.alloc())?;
+fn a_lower_bound_has_its_first_row(rt: HostRuntime) {
+    let index = five_rows(&rt, rt.alloc());
     for (key, open, expected) in [
         (9, false, 0),
         (10, false, 0),
@@ -204,9 +200,8 @@ fn a_lower_bound_has_its_first_row(rt: HostRuntime) -> Result<(), Fail> {
         );
     }
     assert_eq!(rt; first_from(&index, None, true), 0);
-    let text = Key::Text(Text::copy_of(rt.alloc(), "a")?);
+    let text = Key::Text(Text::copy_of(rt.alloc(), "a").expect(&rt, "memory"));
     assert_eq!(rt; first_from(&index, Some(&text), false), 5);
-    Ok(())
 }
 
 /// The plain slow program: rows in the order in which they came.
@@ -216,11 +211,10 @@ struct Heap {
 }
 
 impl Heap {
-    fn put(&mut self, pair: (i64, i64)) -> Result<(), NoMemory> {
+    fn put(&mut self, rt: &impl Abort, pair: (i64, i64)) {
         if !self.rows.iter().any(|other| *other == pair) {
-            self.rows.push(pair)?;
+            self.rows.push(pair).expect(rt, "memory");
         }
-        Ok(())
     }
 
     fn take(&mut self, pair: (i64, i64)) {
@@ -235,19 +229,19 @@ impl Heap {
             .count()
     }
 
-    fn listing(&mut self, alloc: Global) -> Result<String, Fail> {
-        self.rows.sort()?;
+    fn listing(&mut self, rt: &impl Abort, alloc: Global) -> String {
+        self.rows.sort().expect(rt, "memory");
         let mut shown = String::new(alloc);
         for (key, primary) in &self.rows {
-            write!(shown, "{key}:{primary} ")?;
+            write!(shown, "{key}:{primary} ").expect(rt, "memory");
         }
-        Ok(shown)
+        shown
     }
 }
 
 /// After each of many additions and removals the index and the plain list say the same.
 #[test]
-fn the_index_agrees_with_a_plain_list(rt: HostRuntime) -> Result<(), Fail> {
+fn the_index_agrees_with_a_plain_list(rt: HostRuntime) {
     let mut index: IndexTable<FlatTables> = IndexTable::new(rt.alloc());
     let mut heap = Heap {
         rows: Vec::new(rt.alloc()),
@@ -258,14 +252,14 @@ fn the_index_agrees_with_a_plain_list(rt: HostRuntime) -> Result<(), Fail> {
         let key = i64::from(seed >> 16 & 7);
         let primary = i64::from(seed >> 20 & 7);
         if seed >> 28 < 9 {
-            let _ = put(rt.alloc(), &mut index, row(key, primary))?;
-            heap.put((key, primary))?;
+            let _ = put(&rt, rt.alloc(), &mut index, row(key, primary));
+            heap.put(&rt, (key, primary));
         } else {
-            take(rt.alloc(), &mut index, row(key, primary))?;
+            take(&rt, rt.alloc(), &mut index, row(key, primary));
             heap.take((key, primary));
         }
-        let shown = listing(rt.alloc(), &index)?;
-        assert_eq!(rt; shown.as_str(), heap.listing(rt.alloc())?.as_str());
+        let shown = listing(&rt, rt.alloc(), &index);
+        assert_eq!(rt; shown.as_str(), heap.listing(&rt, rt.alloc()).as_str());
         let bound = Key::Number(primary);
         assert_eq!(rt;
             index.find_first(Some(&bound), false),
@@ -277,16 +271,15 @@ fn the_index_agrees_with_a_plain_list(rt: HostRuntime) -> Result<(), Fail> {
         );
     }
     assert!(rt; index.len() > 20);
-    Ok(())
 }
 
 /// A list of rows keeps their order, as do its copy and its vector.
 #[test]
-fn a_list_of_rows_keeps_their_order(rt: HostRuntime) -> Result<(), Fail> {
+fn a_list_of_rows_keeps_their_order(rt: HostRuntime) {
     let mut rows = Rows::new(rt.alloc());
-    rows.push(row(2, 1))?;
-    rows.push(row(1, 2))?;
-    let copy = Rows::from_vec(rows.copy(rt.alloc())?.into_vec());
+    rows.push(row(2, 1)).expect(&rt, "memory");
+    rows.push(row(1, 2)).expect(&rt, "memory");
+    let copy = Rows::from_vec(rows.copy(rt.alloc()).expect(&rt, "memory").into_vec());
     assert_eq!(rt; copy.len(), 2);
     assert!(rt;
         matches!(
@@ -307,7 +300,6 @@ fn a_list_of_rows_keeps_their_order(rt: HostRuntime) -> Result<(), Fail> {
         )
     );
     assert!(rt; copy.at(2).is_none());
-    Ok(())
 }
 
 /// A table of records begins empty.

@@ -3,7 +3,7 @@ use leaf_table::*;
 use sorted_table::{FlatTable, OrderedTable, find_place};
 use std::alloc::Global;
 use std::ops::Range;
-use std::test::Fail;
+use std::process::Abort;
 
 /// A call, with what it is called with.
 #[derive(Clone, Copy)]
@@ -17,13 +17,18 @@ enum Step {
 }
 
 /// Puts an entry in if its key has none; whether it did.
-fn put_new<T: OrderedTable<Key, i64>>(table: &mut T, key: i64, value: i64) -> Result<bool, Fail> {
+fn put_new<T: OrderedTable<Key, i64>>(
+    rt: &impl Abort,
+    table: &mut T,
+    key: i64,
+    value: i64,
+) -> bool {
     match find_place(table, &Key::Number(key)) {
-        Ok(_) => Ok(false),
+        Ok(_) => false,
         Err(place) => {
-            table.reserve(1)?;
+            table.reserve(1).expect(rt, "memory");
             table.insert_at(place, Key::Number(key), value);
-            Ok(true)
+            true
         }
     }
 }
@@ -45,29 +50,32 @@ fn change<T: OrderedTable<Key, i64>>(table: &mut T, key: i64, value: i64) -> Opt
 }
 
 /// Makes one call, and writes its answer behind those before it.
-fn make<T: OrderedTable<Key, i64>>(
-    table: &mut T,
-    step: Step,
-    told: &mut String,
-) -> Result<(), Fail> {
+fn make<T: OrderedTable<Key, i64>>(rt: &impl Abort, table: &mut T, step: Step, told: &mut String) {
     match step {
-        Step::Put(key, value) => write!(told, "{} ", put_new(table, key, value)?)?,
-        Step::Take(key) => write!(told, "{:?} ", take(table, key))?,
-        Step::Change(key, value) => write!(told, "{:?} ", change(table, key, value))?,
-        Step::Find(key) => write!(told, "{:?} ", find_place(table, &Key::Number(key)))?,
+        Step::Put(key, value) => write!(told, "{} ", put_new(rt, table, key, value)).expect(
+            rt, "memory",
+        ),
+        Step::Take(key) => write!(told, "{:?} ", take(table, key)).expect(rt, "memory"),
+        Step::Change(key, value) => write!(told, "{:?} ", change(table, key, value)).expect(
+            rt, "memory",
+        ),
+        Step::Find(key) => write!(told, "{:?} ", find_place(table, &Key::Number(key))).expect(
+            rt, "memory",
+        ),
         Step::Nth(place) => match table.nth(place) {
-            Some((Key::Number(key), value)) => write!(told, "{place}:{key}={value} ")?,
-            _ => write!(told, "{place}:- ")?,
+            Some((Key::Number(key), value)) => write!(told, "{place}:{key}={value} ").expect(
+                rt, "memory",
+            ),
+            _ => write!(told, "{place}:- ").expect(rt, "memory"),
         },
-        Step::Len => write!(told, "{} ", table.len())?,
+        Step::Len => write!(told, "{} ", table.len()).expect(rt, "memory"),
     }
-    Ok(())
 }
 
 /// 701 keys put in scrambled order, and all but the multiples of 5 taken out again in another.
-fn scramble<T: OrderedTable<Key, i64>>(table: &mut T) -> Result<(), Fail> {
+fn scramble<T: OrderedTable<Key, i64>>(rt: &impl Abort, table: &mut T) {
     for i in 0..701i64 {
-        let _ = put_new(table, i.wrapping_mul(389) % 701, i)?;
+        let _ = put_new(rt, table, i.wrapping_mul(389) % 701, i);
     }
     for i in 0..701i64 {
         let key = i.wrapping_mul(211) % 701;
@@ -75,13 +83,12 @@ fn scramble<T: OrderedTable<Key, i64>>(table: &mut T) -> Result<(), Fail> {
             let _ = take(table, key);
         }
     }
-    Ok(())
 }
 
 /// What a table of the scrambled keys answers.
-fn answers<T: OrderedTable<Key, i64>>(alloc: Global, table: &mut T) -> Result<String, Fail> {
+fn answers<T: OrderedTable<Key, i64>>(rt: &impl Abort, alloc: Global, table: &mut T) -> String {
     let mut told = String::new(alloc);
-    scramble(table)?;
+    scramble(rt, table);
     let steps = [
         Step::Len,
         Step::Nth(0),
@@ -108,9 +115,9 @@ fn answers<T: OrderedTable<Key, i64>>(alloc: Global, table: &mut T) -> Result<St
         Step::Len,
     ];
     for step in steps {
-        make(table, step, &mut told)?;
+        make(rt, table, step, &mut told);
     }
-    Ok(told)
+    told
 }
 
 /// What a plain dictionary of the same calls holds.
@@ -118,58 +125,52 @@ const ANSWERS: &str =
     "141 0:0=0 20:100=476 40:200=251 60:300=26 80:400=502 100:500=277 120:600=52 140:700=528 141:- Err(1) Ok(70) Err(71) Ok(140) Err(141) false true Ok(71) Some(2) Some(3) None None 141 ";
 
 #[test]
-fn leaves_answer_as_a_dictionary_does(rt: HostRuntime) -> Result<(), Fail> {
+fn leaves_answer_as_a_dictionary_does(rt: HostRuntime) {
     let mut table: LeafTable<Key, i64> = LeafTable::new(rt.alloc());
-    assert_eq!(rt; answers(rt.alloc(), &mut table)?.as_str(), ANSWERS);
-    Ok(())
+    assert_eq!(rt; answers(&rt, rt.alloc(), &mut table).as_str(), ANSWERS);
 }
 
 #[test]
-fn one_run_answers_the_same(rt: HostRuntime) -> Result<(), Fail> {
+fn one_run_answers_the_same(rt: HostRuntime) {
     let mut table: FlatTable<Key, i64> = FlatTable::new(rt.alloc());
-    assert_eq!(rt; answers(rt.alloc(), &mut table)?.as_str(), ANSWERS);
-    Ok(())
+    assert_eq!(rt; answers(&rt, rt.alloc(), &mut table).as_str(), ANSWERS);
 }
 
 /// Writes how many leaves are in use, and how many entries are spare.
-fn tell(table: &LeafTable<Key, i64>, told: &mut String) -> Result<(), Fail> {
-    write!(told, "{}:{} ", table.leaves(), table.spare())?;
-    Ok(())
+fn tell(rt: &impl Abort, table: &LeafTable<Key, i64>, told: &mut String) {
+    write!(told, "{}:{} ", table.leaves(), table.spare()).expect(rt, "memory");
 }
 
 /// Puts keys in that rise, for which there is room.
-fn put_rising(table: &mut LeafTable<Key, i64>, keys: Range<i64>) -> Result<(), Fail> {
+fn put_rising(rt: &impl Abort, table: &mut LeafTable<Key, i64>, keys: Range<i64>) {
     for key in keys {
-        let _ = put_new(table, key, 0)?;
+        let _ = put_new(rt, table, key, 0);
     }
-    Ok(())
 }
 
 #[test]
-fn leaves_split_and_are_given_back(rt: HostRuntime) -> Result<(), Fail> {
+fn leaves_split_and_are_given_back(rt: HostRuntime) {
     let mut table: LeafTable<Key, i64> = LeafTable::new(rt.alloc());
     let mut told = String::new(rt.alloc());
-    tell(&table, &mut told)?;
-    table.reserve(65)?;
-    put_rising(&mut table, 0..65)?;
-    tell(&table, &mut told)?;
+    tell(&rt, &table, &mut told);
+    table.reserve(65).expect(&rt, "memory");
+    put_rising(&rt, &mut table, 0..65);
+    tell(&rt, &table, &mut told);
     for key in 0..65i64 {
         let _ = take(&mut table, key);
     }
-    tell(&table, &mut told)?;
+    tell(&rt, &table, &mut told);
     assert_eq!(rt; told.as_str(), "0:0 2:31 0:65 ");
-    Ok(())
 }
 
 #[test]
-fn a_full_leaf_splits_into_halves(rt: HostRuntime) -> Result<(), Fail> {
+fn a_full_leaf_splits_into_halves(rt: HostRuntime) {
     let mut table: LeafTable<Key, i64> = LeafTable::new(rt.alloc());
     let mut told = String::new(rt.alloc());
-    table.reserve(64)?;
-    put_rising(&mut table, 0..64)?;
-    tell(&table, &mut told)?;
-    put_rising(&mut table, 64..65)?;
-    tell(&table, &mut told)?;
+    table.reserve(64).expect(&rt, "memory");
+    put_rising(&rt, &mut table, 0..64);
+    tell(&rt, &table, &mut told);
+    put_rising(&rt, &mut table, 64..65);
+    tell(&rt, &table, &mut told);
     assert_eq!(rt; told.as_str(), "1:32 2:31 ");
-    Ok(())
 }

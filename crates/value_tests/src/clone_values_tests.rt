@@ -1,13 +1,12 @@
 use clone_values::*;
-use idb_base::{GREATEST_LENGTH, NoMemory};
-use std::alloc::{AllocError, Global};
+use idb_base::GREATEST_LENGTH;
+use std::alloc::Global;
 use std::fmt::Write;
+use std::process::Abort;
 
-fn text(alloc: Global, s: &str) -> Result<Text, NoMemory> {
-    if s.len() > GREATEST_LENGTH {
-        return Err(NoMemory);
-    }
-    Text::copy_of(alloc, s)
+fn text(rt: &impl Abort, alloc: Global, s: &str) -> Text {
+    assert!(rt; s.len() <= GREATEST_LENGTH);
+    Text::copy_of(alloc, s).expect(rt, "memory")
 }
 
 /// A value to be made.
@@ -26,42 +25,45 @@ enum Made {
     Named(&'static str),
 }
 
-fn nested(alloc: Global, depth: u32, innermost: Value) -> Result<Value, NoMemory> {
+fn nested(rt: &impl Abort, alloc: Global, depth: u32, innermost: Value) -> Value {
     let mut value = innermost;
     for _ in 1..depth {
         let mut items = Items::new(alloc);
-        items.push(value)?;
+        items.push(value).expect(rt, "memory");
         value = Value::Array(items, Props::new(alloc));
     }
-    Ok(value)
+    value
 }
 
-fn named(alloc: Global, name: &str) -> Result<Value, NoMemory> {
+fn named(rt: &impl Abort, alloc: Global, name: &str) -> Value {
     let mut props = Props::new(alloc);
-    props.set(text(alloc, name)?, Value::Null)?;
-    Ok(Value::Array(Items::new(alloc), props))
+    props
+        .set(text(rt, alloc, name), Value::Null)
+        .expect(rt, "memory");
+    Value::Array(Items::new(alloc), props)
 }
 
-fn null_twice(alloc: Global) -> Result<Value, NoMemory> {
+fn null_twice(rt: &impl Abort, alloc: Global) -> Value {
     let mut items = Items::new(alloc);
-    items.push(Value::Null)?;
-    items.push(Value::Null)?;
-    Ok(Value::Set(items))
+    items.push(Value::Null).expect(rt, "memory");
+    items.push(Value::Null).expect(rt, "memory");
+    Value::Set(items)
 }
 
-fn value_of(alloc: Global, it: &Made) -> Result<Value, NoMemory> {
+fn value_of(rt: &impl Abort, alloc: Global, it: &Made) -> Value {
     match it {
-        Made::Int(n) => Ok(Value::Int(*n)),
-        Made::Date(d) => Ok(Value::Date(*d)),
-        Made::Function => Ok(Value::Function),
+        Made::Int(n) => Value::Int(*n),
+        Made::Date(d) => Value::Date(*d),
+        Made::Function => Value::Function,
         Made::Nested(depth) => nested(
+            rt,
             alloc,
             *depth,
             Value::Array(Items::new(alloc), Props::new(alloc)),
         ),
-        Made::AroundFunction(depth) => nested(alloc, *depth, Value::Function),
-        Made::NullTwice => null_twice(alloc),
-        Made::Named(name) => named(alloc, name),
+        Made::AroundFunction(depth) => nested(rt, alloc, *depth, Value::Function),
+        Made::NullTwice => null_twice(rt, alloc),
+        Made::Named(name) => named(rt, alloc, name),
     }
 }
 
@@ -69,8 +71,8 @@ fn is_cloned(alloc: Global, value: &Value) -> bool {
     clone_value(alloc, value).is_ok()
 }
 
-fn is_copied(alloc: Global, value: &Value) -> Result<bool, NoMemory> {
-    Ok(same_value(&copy_value(alloc, value)?, value))
+fn is_copied(rt: &impl Abort, alloc: Global, value: &Value) -> bool {
+    same_value(&copy_value(alloc, value).expect(rt, "memory"), value)
 }
 
 fn push_if(said: &mut String, is_so: bool, mark: char) {
@@ -80,18 +82,17 @@ fn push_if(said: &mut String, is_so: bool, mark: char) {
 }
 
 /// Writes what is told of a value: its depth, `w` if well formed, `c` if cloned, `=` if the copy is equal to it.
-fn tell(alloc: Global, said: &mut String, value: &Value) -> Result<(), NoMemory> {
+fn tell(rt: &impl Abort, alloc: Global, said: &mut String, value: &Value) {
     let _ = write!(said, "{}", depth(value));
     push_if(said, well_formed(value), 'w');
     push_if(said, is_cloned(alloc, value), 'c');
-    push_if(said, is_copied(alloc, value)?, '=');
+    push_if(said, is_copied(rt, alloc, value), '=');
     let _ = said.push(' ');
-    Ok(())
 }
 
-fn told(alloc: Global, said: &mut String, it: &Made) -> Result<(), NoMemory> {
-    let value = value_of(alloc, it)?;
-    tell(alloc, said, &value)
+fn told(rt: &impl Abort, alloc: Global, said: &mut String, it: &Made) {
+    let value = value_of(rt, alloc, it);
+    tell(rt, alloc, said, &value)
 }
 
 /// The ends of the ranges, depth 100, Functions, members that stand twice and the names of an Array's properties.
@@ -120,14 +121,12 @@ fn what_is_told_of_values(rt: HostRuntime) {
         Made::Named("lengths"),
     ];
     let mut said = String::new(rt.alloc());
-    let mut is_done = true;
     for it in &values {
-        is_done = is_done && told(rt.alloc(), &mut said, it).is_ok();
+        told(&rt, rt.alloc(), &mut said, it);
     }
     assert!(rt;
-        is_done
-            && said.as_str()
-                == "1wc= 1c= 1wc= 1c= 1wc= 1c= 1wc= 1c= 1w= 2w= 1wc= 100wc= 101w= 2c= 2c= 2c= 2c= 2wc= 2wc= 2wc= "
+        said.as_str()
+            == "1wc= 1c= 1wc= 1c= 1wc= 1c= 1wc= 1c= 1w= 2w= 1wc= 100wc= 101w= 2c= 2c= 2c= 2c= 2wc= 2wc= 2wc= "
     );
 }
 
@@ -141,11 +140,12 @@ enum Step {
     All,
 }
 
-fn set(alloc: Global, props: &mut Props, name: &str, n: i64) -> Result<(), NoMemory> {
+fn set(rt: &impl Abort, alloc: Global, props: &mut Props, name: &str, n: i64) {
     if props.len() < GREATEST_LENGTH {
-        props.set(text(alloc, name)?, Value::Int(n))?;
+        props
+            .set(text(rt, alloc, name), Value::Int(n))
+            .expect(rt, "memory");
     }
-    Ok(())
 }
 
 fn find(props: &Props, said: &mut String, name: &str) {
@@ -162,25 +162,23 @@ fn place(props: &Props, said: &mut String, name: &str) {
     };
 }
 
-fn replace(props: &mut Props, said: &mut String, place: usize, n: i64) -> Result<(), NoMemory> {
+fn replace(rt: &impl Abort, props: &mut Props, said: &mut String, place: usize, n: i64) {
     if place < props.len() {
-        if let Value::Int(old) = props.replace(place, Value::Int(n))? {
+        if let Value::Int(old) = props.replace(place, Value::Int(n)).expect(rt, "memory") {
             let _ = write!(said, "-{old}");
         }
     }
-    Ok(())
 }
 
 /// Makes one step, and writes what it answered.
-fn make(alloc: Global, props: &mut Props, said: &mut String, step: &Step) -> Result<(), NoMemory> {
+fn make(rt: &impl Abort, alloc: Global, props: &mut Props, said: &mut String, step: &Step) {
     match step {
-        Step::Set(name, n) => set(alloc, props, name, *n)?,
+        Step::Set(name, n) => set(rt, alloc, props, name, *n),
         Step::Find(name) => find(props, said, name),
         Step::Place(name) => place(props, said, name),
-        Step::Replace(place, n) => replace(props, said, *place, *n)?,
+        Step::Replace(place, n) => replace(rt, props, said, *place, *n),
         Step::All => show(props, said),
     }
-    Ok(())
 }
 
 fn show(props: &Props, said: &mut String) {
@@ -220,62 +218,56 @@ fn properties_stand_by_name(rt: HostRuntime) {
     ];
     let mut props = Props::new(rt.alloc());
     let mut said = String::new(rt.alloc());
-    let mut is_done = true;
     for step in &steps {
-        is_done = is_done && make(rt.alloc(), &mut props, &mut said, step).is_ok();
+        make(&rt, rt.alloc(), &mut props, &mut said, step);
     }
-    assert!(rt;
-        is_done && said.as_str() == ":5,a:2,b:4,\u{ff61}:3,\u{10000}:6,=4=none@1<2@3<5-2=9"
-    );
+    assert!(rt; said.as_str() == ":5,a:2,b:4,\u{ff61}:3,\u{10000}:6,=4=none@1<2@3<5-2=9");
 }
 
-fn numbered(alloc: Global, number: u32, n: u32) -> Result<Prop, NoMemory> {
+fn numbered(rt: &impl Abort, alloc: Global, number: u32, n: u32) -> Prop {
     let mut name = String::new(alloc);
     let _ = write!(name, "{number:06}");
-    Ok(Prop {
-        name: text(alloc, name.as_str())?,
+    Prop {
+        name: text(rt, alloc, name.as_str()),
         value: Value::Int(i64::from(n)),
-    })
+    }
 }
 
-fn falling(alloc: Global, count: u32, again: u32) -> Result<Vec<Prop>, NoMemory> {
+fn falling(rt: &impl Abort, alloc: Global, count: u32, again: u32) -> Vec<Prop> {
     let mut props = Vec::new(alloc);
     for n in 0..count.saturating_add(again) {
         let number = if n < count { count - n } else { n - count };
-        props.push(numbered(alloc, number, n)?)?;
+        props
+            .push(numbered(rt, alloc, number, n))
+            .expect(rt, "memory");
     }
-    Ok(props)
+    props
 }
 
 /// The names of numbers, in falling order, and some of them once more.
-fn fallen(alloc: Global, count: u32, again: u32) -> Result<Props, NoMemory> {
-    let props = falling(alloc, count, again)?;
-    if props.len() > GREATEST_LENGTH {
-        return Err(NoMemory);
-    }
-    Props::from_unsorted(alloc, props)
+fn fallen(rt: &impl Abort, alloc: Global, count: u32, again: u32) -> Props {
+    let props = falling(rt, alloc, count, again);
+    assert!(rt; props.len() <= GREATEST_LENGTH);
+    Props::from_unsorted(alloc, props).expect(rt, "memory")
 }
 
 /// Properties of a vector are sorted, the last of a name stands, and many take the time of a sort.
 #[test]
 fn properties_come_unsorted(rt: HostRuntime) {
     let mut said = String::new(rt.alloc());
-    if let Ok(props) = fallen(rt.alloc(), 3, 3) {
-        show(&props, &mut said);
-    }
-    if let Ok(props) = fallen(rt.alloc(), 100_000, 0) {
-        let _ = write!(said, " {}", props.len());
-    }
+    show(&fallen(&rt, rt.alloc(), 3, 3), &mut said);
+    let _ = write!(said, " {}", fallen(&rt, rt.alloc(), 100_000, 0).len());
     assert!(rt; said.as_str() == "000000:3,000001:4,000002:5,000003:0, 100000");
 }
 
 /// Puts a number into a Set, and with what it brings into a Map.
-fn put(members: &mut Items, entries: &mut Pairs, n: i64, brings: i64) -> Result<(), NoMemory> {
+fn put(rt: &impl Abort, members: &mut Items, entries: &mut Pairs, n: i64, brings: i64) {
     if members.len() < GREATEST_LENGTH && entries.len() < GREATEST_LENGTH {
-        members.put_once(Value::Int(n))?;
-        entries.put(Value::Int(n), Value::Int(brings))?;
+        members.put_once(Value::Int(n)).expect(rt, "memory");
+        entries
+            .put(Value::Int(n), Value::Int(brings))
+            .expect(rt, "memory");
     }
-    Ok(())
 }
 
 fn show_items(members: &Items, said: &mut String) {
@@ -305,49 +297,46 @@ fn show_members(members: &Items, entries: &Pairs, said: &mut String) {
     show_pairs(entries, said);
 }
 
-fn put_all(members: &mut Items, entries: &mut Pairs, rows: &[(i64, i64)]) -> bool {
-    let mut is_done = true;
+fn put_all(rt: &impl Abort, members: &mut Items, entries: &mut Pairs, rows: &[(i64, i64)]) {
     for (n, brings) in rows {
-        is_done = is_done && put(members, entries, *n, *brings).is_ok();
+        put(rt, members, entries, *n, *brings);
     }
-    is_done
 }
 
 /// Puts these, copies both lists, puts one more number with another value and a new one, and writes both lists and the
 /// copies.
-fn put_and_copy(alloc: Global, said: &mut String) -> Result<bool, AllocError> {
+fn put_and_copy(rt: &impl Abort, alloc: Global, said: &mut String) {
     let mut members = Items::new(alloc);
     let mut entries = Pairs::new(alloc);
-    let mut is_done = put_all(&mut members, &mut entries, &[(1, 10), (2, 20), (1, 11)]);
-    let copied = members.clone()?;
-    let mapped = entries.clone()?;
-    is_done = is_done && put_all(&mut members, &mut entries, &[(2, 21), (3, 30)]);
+    put_all(rt, &mut members, &mut entries, &[(1, 10), (2, 20), (1, 11)]);
+    let copied = members.clone().expect(rt, "memory");
+    let mapped = entries.clone().expect(rt, "memory");
+    put_all(rt, &mut members, &mut entries, &[(2, 21), (3, 30)]);
     show_members(&members, &entries, said);
     let _ = said.push_str("; ");
     show_members(&copied, &mapped, said);
-    Ok(is_done)
 }
 
 /// A repeated primitive keeps its first place, and a Map takes the last value; a copy stays as it was.
 #[test]
 fn members_stand_once(rt: HostRuntime) {
     let mut said = String::new(rt.alloc());
-    let is_done = matches!(put_and_copy(rt.alloc(), &mut said), Ok(true));
-    assert!(rt; is_done && said.as_str() == "1,2,3, 1:11 2:21 3:30; 1,2, 1:11 2:20");
+    put_and_copy(&rt, rt.alloc(), &mut said);
+    assert!(rt; said.as_str() == "1,2,3, 1:11 2:21 3:30; 1,2, 1:11 2:20");
 }
 
-fn one_text(alloc: Global) -> Result<Texts, NoMemory> {
+fn one_text(rt: &impl Abort, alloc: Global) -> Texts {
     let mut texts = Vec::new(alloc);
-    texts.push(text(alloc, "grün")?)?;
-    Ok(Texts::from_vec(texts))
+    texts.push(text(rt, alloc, "grün")).expect(rt, "memory");
+    Texts::from_vec(texts)
 }
 
-fn two_texts(alloc: Global) -> Result<PathSpec, NoMemory> {
-    let mut texts = one_text(alloc)?;
+fn two_texts(rt: &impl Abort, alloc: Global) -> PathSpec {
+    let mut texts = one_text(rt, alloc);
     if texts.len() < GREATEST_LENGTH {
-        texts.push(text(alloc, "")?)?;
+        texts.push(text(rt, alloc, "")).expect(rt, "memory");
     }
-    Ok(PathSpec::Many(texts))
+    PathSpec::Many(texts)
 }
 
 fn show_texts(texts: Vec<Text>, said: &mut String) {
@@ -357,18 +346,19 @@ fn show_texts(texts: Vec<Text>, said: &mut String) {
     }
 }
 
-fn texts(alloc: Global, said: &mut String) -> Result<(), NoMemory> {
-    let spec = two_texts(alloc)?;
-    if let PathSpec::Many(copied) = spec.copy(alloc)? {
+fn texts(rt: &impl Abort, alloc: Global, said: &mut String) {
+    let spec = two_texts(rt, alloc);
+    if let PathSpec::Many(copied) = spec.copy(alloc).expect(rt, "memory") {
         show_texts(copied.into_vec(), said);
     }
-    Ok(())
 }
 
-fn two_bytes(alloc: Global) -> Result<Bytes, NoMemory> {
-    let mut bytes = Bytes::from_vec(alloc, vec![in alloc; 7]?)?;
-    bytes.push(8)?;
-    Ok(bytes)
+fn two_bytes(rt: &impl Abort, alloc: Global) -> Bytes {
+    let mut bytes = Bytes::from_vec(alloc, vec![in alloc; 7].expect(rt, "memory")).expect(
+        rt, "memory",
+    );
+    bytes.push(8).expect(rt, "memory");
+    bytes
 }
 
 fn show_bytes(bytes: &[u8], said: &mut String) {
@@ -377,25 +367,26 @@ fn show_bytes(bytes: &[u8], said: &mut String) {
     }
 }
 
-fn bytes(alloc: Global, said: &mut String) -> Result<(), NoMemory> {
-    let bytes = two_bytes(alloc)?;
-    let copied = bytes.copy(alloc)?;
+fn bytes(rt: &impl Abort, alloc: Global, said: &mut String) {
+    let bytes = two_bytes(rt, alloc);
+    let copied = bytes.copy(alloc).expect(rt, "memory");
     show_bytes(copied.as_slice(), said);
     let _ = write!(said, "{:?}{:?}", bytes.at(1), bytes.at(2));
-    Ok(())
 }
 
-fn numbers(alloc: Global, said: &mut String) -> Result<(), NoMemory> {
+fn numbers(rt: &impl Abort, alloc: Global, said: &mut String) {
     let mut numbers = Numbers::new(alloc);
-    numbers.push(u64::MAX)?;
+    numbers.push(u64::MAX).expect(rt, "memory");
     let _ = write!(said, "{:?}", numbers.at(0));
-    Ok(())
 }
 
-fn two_keys(alloc: Global) -> Result<Key, NoMemory> {
-    let mut keys = Keys::from_vec(alloc, vec![in alloc; Key::Number(-3)]?)?;
-    keys.push(Key::Date(4))?;
-    Ok(Key::Array(keys))
+fn two_keys(rt: &impl Abort, alloc: Global) -> Key {
+    let mut keys = Keys::from_vec(
+        alloc,
+        vec![in alloc; Key::Number(-3)].expect(rt, "memory"),
+    ).expect(rt, "memory");
+    keys.push(Key::Date(4)).expect(rt, "memory");
+    Key::Array(keys)
 }
 
 fn show_keys(keys: &Keys, said: &mut String) {
@@ -404,28 +395,27 @@ fn show_keys(keys: &Keys, said: &mut String) {
     }
 }
 
-fn keys(alloc: Global, said: &mut String) -> Result<(), NoMemory> {
-    let key = two_keys(alloc)?;
-    if let Key::Array(copied) = key.copy(alloc)? {
+fn keys(rt: &impl Abort, alloc: Global, said: &mut String) {
+    let key = two_keys(rt, alloc);
+    if let Key::Array(copied) = key.copy(alloc).expect(rt, "memory") {
         show_keys(&copied, said);
     }
-    Ok(())
 }
 
 /// Makes each list of texts, bytes, numbers and keys, from a vector and by pushing, and writes what stands there.
-fn lists(alloc: Global, said: &mut String) -> Result<(), NoMemory> {
-    texts(alloc, said)?;
-    bytes(alloc, said)?;
-    numbers(alloc, said)?;
-    keys(alloc, said)
+fn lists(rt: &impl Abort, alloc: Global, said: &mut String) {
+    texts(rt, alloc, said);
+    bytes(rt, alloc, said);
+    numbers(rt, alloc, said);
+    keys(rt, alloc, said)
 }
 
 /// One item of each kind of list, and nothing past the end.
 #[test]
 fn lists_keep_what_was_pushed(rt: HostRuntime) {
     let mut said = String::new(rt.alloc());
-    let is_done = lists(rt.alloc(), &mut said).is_ok();
-    assert!(rt; is_done && said.as_str() == "2grün,,7,8,Some(8)NoneSome(18446744073709551615)-3,4");
+    lists(&rt, rt.alloc(), &mut said);
+    assert!(rt; said.as_str() == "2grün,,7,8,Some(8)NoneSome(18446744073709551615)-3,4");
 }
 
 /// A value may be shared by threads.

@@ -1,7 +1,8 @@
 // The list at a concrete type, and what want of memory is made of.
-use idb_base::{Listed, NoMemory};
+use idb_base::Listed;
 use std::alloc::Global;
 use std::fmt::Write;
+use std::process::Abort;
 
 #[derive(Drop)]
 enum Edit {
@@ -13,17 +14,12 @@ enum Edit {
 }
 
 /// Makes one edit, and writes what it answered.
-fn make(
-    alloc: Global,
-    list: &mut Listed<u64>,
-    said: &mut String,
-    edit: &Edit,
-) -> Result<(), NoMemory> {
+fn make(rt: &impl Abort, alloc: Global, list: &mut Listed<u64>, said: &mut String, edit: &Edit) {
     match edit {
-        Edit::Push(n) => list.push(*n)?,
+        Edit::Push(n) => list.push(*n).expect(rt, "memory"),
         Edit::InsertAt(place, n) => {
             if *place <= list.len() {
-                list.insert_at(*place, *n)?;
+                list.insert_at(*place, *n).expect(rt, "memory");
             }
         }
         Edit::RemoveAt(place) => {
@@ -40,13 +36,12 @@ fn make(
             }
         },
         Edit::Copy => {
-            let copied = list.copy(alloc)?;
+            let copied = list.copy(alloc).expect(rt, "memory");
             for n in copied.into_vec() {
                 let _ = write!(said, ",{n}");
             }
         }
     }
-    Ok(())
 }
 
 #[test]
@@ -63,9 +58,8 @@ fn a_list_keeps_its_items_in_order(rt: HostRuntime) {
     ];
     let mut list = Listed::new(rt.alloc());
     let mut said = String::new(rt.alloc());
-    let mut is_done = true;
     for it in &edits {
-        is_done = is_done && make(rt.alloc(), &mut list, &mut said, it).is_ok();
+        make(&rt, rt.alloc(), &mut list, &mut said, it);
     }
-    assert!(rt; is_done && said.as_str() == "=5=none,5,7,9-7,5,9");
+    assert!(rt; said.as_str() == "=5=none,5,7,9-7,5,9");
 }

@@ -5,54 +5,50 @@ use idb_base::{GREATEST_LENGTH, NoMemory};
 use std::alloc::Global;
 use std::fmt::Write;
 use std::process::Abort;
-use std::test::Fail;
 use value_bytes::*;
 
-fn text(alloc: Global, s: &str) -> Result<Text, Fail> {
-    if s.len() > GREATEST_LENGTH {
-        return Err(Fail::new("a text that is too long"));
-    }
-    Ok(Text::copy_of(alloc, s)?)
+fn text(rt: &impl Abort, alloc: Global, s: &str) -> Text {
+    assert!(rt; s.len() <= GREATEST_LENGTH);
+    Text::copy_of(alloc, s).expect(rt, "memory")
 }
 
-fn one_item(alloc: Global, item: Value) -> Result<Items, Fail> {
+fn one_item(rt: &impl Abort, alloc: Global, item: Value) -> Items {
     let mut items = Items::new(alloc);
-    items.push(item)?;
-    Ok(items)
+    items.push(item).expect(rt, "memory");
+    items
 }
 
-fn one_prop(alloc: Global, name: &str, value: Value) -> Result<Props, Fail> {
+fn one_prop(rt: &impl Abort, alloc: Global, name: &str, value: Value) -> Props {
     let mut props = Props::new(alloc);
-    props.set(text(alloc, name)?, value)?;
-    Ok(props)
+    props.set(text(rt, alloc, name), value).expect(rt, "memory");
+    props
 }
 
 /// The bytes of a value, behind one that was there.
-fn written(alloc: Global, value: &Value) -> Result<Vec<u8>, Fail> {
-    if !well_formed(value) || clone_value(alloc, value).is_err() {
-        return Err(Fail::new("a value that isn't well formed, or no clone of it"));
-    }
+fn written(rt: &impl Abort, alloc: Global, value: &Value) -> Vec<u8> {
+    assert!(rt; well_formed(value) && clone_value(alloc, value).is_ok());
     let mut out = Vec::new(alloc);
-    out.push(7)?;
-    write_value(&mut out, value)?;
-    Ok(out)
+    out.push(7).expect(rt, "memory");
+    write_value(&mut out, value).expect(rt, "memory");
+    out
 }
 
-fn is_written_as(alloc: Global, value: &Value, bytes: &[u8]) -> Result<bool, Fail> {
-    let out = written(alloc, value)?;
-    Ok(out.as_slice().get(1..) == Some(bytes) && value_size(value) == bytes.len() as u64)
+fn is_written_as(rt: &impl Abort, alloc: Global, value: &Value, bytes: &[u8]) -> bool {
+    let out = written(rt, alloc, value);
+    out.as_slice().get(1..) == Some(bytes) && value_size(value) == bytes.len() as u64
 }
 
 /// Whether the value is read from this place on, to this end.
 fn is_read_from(
+    rt: &impl Abort,
     alloc: Global,
     value: &Value,
     bytes: &[u8],
     from: usize,
     end: usize,
-) -> Result<bool, Fail> {
-    let (found, found_end) = read_value(alloc, bytes, from)?;
-    Ok(same_value(&found, value) && found_end == end)
+) -> bool {
+    let (found, found_end) = read_value(alloc, bytes, from).expect(rt, "a value");
+    same_value(&found, value) && found_end == end
 }
 
 fn is_refused(alloc: Global, bytes: &[u8], from: usize) -> bool {
@@ -98,74 +94,71 @@ enum Made {
     Worked,
 }
 
-fn byte_string(alloc: Global, byte: u8) -> Result<Value, Fail> {
+fn byte_string(rt: &impl Abort, alloc: Global, byte: u8) -> Value {
     let mut bytes = Bytes::new(alloc);
-    bytes.push(byte)?;
-    Ok(Value::Bytes(bytes))
+    bytes.push(byte).expect(rt, "memory");
+    Value::Bytes(bytes)
 }
 
-fn named_array(alloc: Global, name: &str) -> Result<Value, Fail> {
-    let props = one_prop(alloc, name, Value::Null)?;
-    Ok(Value::Array(Items::new(alloc), props))
+fn named_array(rt: &impl Abort, alloc: Global, name: &str) -> Value {
+    let props = one_prop(rt, alloc, name, Value::Null);
+    Value::Array(Items::new(alloc), props)
 }
 
-fn null_to(alloc: Global, b: bool) -> Result<Value, Fail> {
+fn null_to(rt: &impl Abort, alloc: Global, b: bool) -> Value {
     let mut pairs = Pairs::new(alloc);
-    pairs.put(Value::Null, Value::Bool(b))?;
-    Ok(Value::Map(pairs))
+    pairs.put(Value::Null, Value::Bool(b)).expect(rt, "memory");
+    Value::Map(pairs)
 }
 
-fn worked(alloc: Global) -> Result<Value, Fail> {
-    let one = Value::Array(one_item(alloc, Value::Int(1))?, Props::new(alloc));
-    Ok(Value::Object(one_prop(alloc, "a", one)?))
+fn worked(rt: &impl Abort, alloc: Global) -> Value {
+    let one = Value::Array(one_item(rt, alloc, Value::Int(1)), Props::new(alloc));
+    Value::Object(one_prop(rt, alloc, "a", one))
 }
 
-fn value_of(alloc: Global, made: Made) -> Result<Value, Fail> {
+fn value_of(rt: &impl Abort, alloc: Global, made: Made) -> Value {
     match made {
-        Made::Undefined => Ok(Value::Undefined),
-        Made::Null => Ok(Value::Null),
-        Made::Bool(b) => Ok(Value::Bool(b)),
-        Made::Int(n) => Ok(Value::Int(n)),
-        Made::Date(d) => Ok(Value::Date(d)),
-        Made::Text(s) => Ok(Value::Text(text(alloc, s)?)),
-        Made::Byte(byte) => byte_string(alloc, byte),
-        Made::Named(name) => named_array(alloc, name),
-        Made::NullTo(b) => null_to(alloc, b),
-        Made::SetOf(b) => Ok(Value::Set(one_item(alloc, Value::Bool(b))?)),
-        Made::Worked => worked(alloc),
+        Made::Undefined => Value::Undefined,
+        Made::Null => Value::Null,
+        Made::Bool(b) => Value::Bool(b),
+        Made::Int(n) => Value::Int(n),
+        Made::Date(d) => Value::Date(d),
+        Made::Text(s) => Value::Text(text(rt, alloc, s)),
+        Made::Byte(byte) => byte_string(rt, alloc, byte),
+        Made::Named(name) => named_array(rt, alloc, name),
+        Made::NullTo(b) => null_to(rt, alloc, b),
+        Made::SetOf(b) => Value::Set(one_item(rt, alloc, Value::Bool(b))),
+        Made::Worked => worked(rt, alloc),
     }
 }
 
 /// Whether the value is written as these bytes, behind what was there, and its size is told; and from these bytes it is
 /// read, and no proper front of them is a spelling.
-fn is_spelled_as(alloc: Global, value: &Value, bytes: &[u8]) -> Result<bool, Fail> {
-    Ok(
-        is_written_as(alloc, value, bytes)?
-            && is_read_from(alloc, value, bytes, 0, bytes.len())?
-            && is_each_front_refused(alloc, bytes),
-    )
+fn is_spelled_as(rt: &impl Abort, alloc: Global, value: &Value, bytes: &[u8]) -> bool {
+    is_written_as(rt, alloc, value, bytes)
+        && is_read_from(rt, alloc, value, bytes, 0, bytes.len())
+        && is_each_front_refused(alloc, bytes)
 }
 
-fn is_spelled(alloc: Global, made: Made, bytes: &[u8]) -> Result<bool, Fail> {
-    let value = value_of(alloc, made)?;
-    is_spelled_as(alloc, &value, bytes)
+fn is_spelled(rt: &impl Abort, alloc: Global, made: Made, bytes: &[u8]) -> bool {
+    let value = value_of(rt, alloc, made);
+    is_spelled_as(rt, alloc, &value, bytes)
 }
 
-fn are_spelled(alloc: Global, rows: &[(Made, &[u8])]) -> Result<bool, Fail> {
+fn are_spelled(rt: &impl Abort, alloc: Global, rows: &[(Made, &[u8])]) -> bool {
     for (made, bytes) in rows {
-        if !is_spelled(alloc, *made, *bytes)? {
-            return Ok(false);
+        if !is_spelled(rt, alloc, *made, *bytes) {
+            return false;
         }
     }
-    Ok(true)
+    true
 }
 
 /// The object {"a":[1]} has 28 bytes.
 #[test]
-fn the_worked_object(rt: HostRuntime) -> Result<(), Fail> {
+fn the_worked_object(rt: HostRuntime) {
     let bytes = b"\x09\0\0\0\x01\0\0\0\x01a\x08\0\0\0\x01\x04\0\0\0\0\0\0\0\x01\0\0\0\0";
-    assert!(rt; bytes.len() == 28 && is_spelled(rt.alloc(), Made::Worked, bytes)?);
-    Ok(())
+    assert!(rt; bytes.len() == 28 && is_spelled(&rt, rt.alloc(), Made::Worked, bytes));
 }
 
 const WITHOUT_MEMBERS: [(Made, &[u8]); 6] = [
@@ -184,9 +177,8 @@ const WITHOUT_MEMBERS: [(Made, &[u8]); 6] = [
 ];
 
 #[test]
-fn kinds_without_members(rt: HostRuntime) -> Result<(), Fail> {
-    assert!(rt; are_spelled(rt.alloc(), &WITHOUT_MEMBERS)?);
-    Ok(())
+fn kinds_without_members(rt: HostRuntime) {
+    assert!(rt; are_spelled(&rt, rt.alloc(), &WITHOUT_MEMBERS));
 }
 
 const WITH_MEMBERS: [(Made, &[u8]); 5] = [
@@ -198,9 +190,8 @@ const WITH_MEMBERS: [(Made, &[u8]); 5] = [
 ];
 
 #[test]
-fn kinds_with_members(rt: HostRuntime) -> Result<(), Fail> {
-    assert!(rt; are_spelled(rt.alloc(), &WITH_MEMBERS)?);
-    Ok(())
+fn kinds_with_members(rt: HostRuntime) {
+    assert!(rt; are_spelled(&rt, rt.alloc(), &WITH_MEMBERS));
 }
 
 /// Names that don't rise, and then each other rule of the grammar.
@@ -234,112 +225,105 @@ fn are_refused(alloc: Global, rows: &[&[u8]]) -> bool {
 }
 
 #[test]
-fn refused_values(rt: HostRuntime) -> Result<(), Fail> {
+fn refused_values(rt: HostRuntime) {
     assert!(rt; are_refused(rt.alloc(), &REFUSED));
-    Ok(())
 }
 
 /// These bytes with a head before and a tail behind them.
-fn around(alloc: Global, head: &[u8], inner: &[u8], tail: &[u8]) -> Result<Vec<u8>, Fail> {
+fn around(rt: &impl Abort, alloc: Global, head: &[u8], inner: &[u8], tail: &[u8]) -> Vec<u8> {
     let mut outer = Vec::new(alloc);
-    outer.extend_from_slice(head)?;
-    outer.extend_from_slice(inner)?;
-    outer.extend_from_slice(tail)?;
-    Ok(outer)
+    outer.extend_from_slice(head).expect(rt, "memory");
+    outer.extend_from_slice(inner).expect(rt, "memory");
+    outer.extend_from_slice(tail).expect(rt, "memory");
+    outer
 }
 
 /// The bytes of Arrays nested so deep.
-fn nested(alloc: Global, depth: u32) -> Result<Vec<u8>, Fail> {
-    let mut bytes = Vec::from_slice(alloc, b"\x08\0\0\0\0\0\0\0\0")?;
+fn nested(rt: &impl Abort, alloc: Global, depth: u32) -> Vec<u8> {
+    let mut bytes = Vec::from_slice(alloc, b"\x08\0\0\0\0\0\0\0\0").expect(rt, "memory");
     for _ in 1..depth {
-        bytes = around(alloc, b"\x08\0\0\0\x01", bytes.as_slice(), b"\0\0\0\0")?;
+        bytes = around(rt, alloc, b"\x08\0\0\0\x01", bytes.as_slice(), b"\0\0\0\0");
     }
-    Ok(bytes)
+    bytes
 }
 
-fn end_of(alloc: Global, bytes: &[u8], from: usize) -> Result<usize, Fail> {
-    Ok(read_value(alloc, bytes, from)?.1)
+fn end_of(rt: &impl Abort, alloc: Global, bytes: &[u8], from: usize) -> usize {
+    read_value(alloc, bytes, from).expect(rt, "a value").1
 }
 
 /// Arrays nested 100 deep are read and 101 deep refused.
 #[test]
-fn depth_is_bounded(rt: HostRuntime) -> Result<(), Fail> {
+fn depth_is_bounded(rt: HostRuntime) {
     let alloc = rt.alloc();
-    let bytes = nested(alloc, 100)?;
-    let deeper = around(alloc, b"\x0b\0\0\0\x01", bytes.as_slice(), b"")?;
+    let bytes = nested(&rt, alloc, 100);
+    let deeper = around(&rt, alloc, b"\x0b\0\0\0\x01", bytes.as_slice(), b"");
     let ends = (
-        end_of(alloc, bytes.as_slice(), 0)?,
-        end_of(alloc, deeper.as_slice(), 5)?,
+        end_of(&rt, alloc, bytes.as_slice(), 0),
+        end_of(&rt, alloc, deeper.as_slice(), 5),
     );
     assert!(rt;
         ends == (900, 905) && bytes.len() == 900 && is_refused(alloc, deeper.as_slice(), 0)
     );
-    Ok(())
 }
 
-fn are_at_their_places(alloc: Global, bytes: &[u8]) -> Result<bool, Fail> {
-    Ok(
-        is_read_from(alloc, &Value::Null, bytes, 1, 2)?
-            && is_refused(alloc, bytes, 3)
-            && is_refused(alloc, bytes, 4)
-            && is_refused_key(alloc, bytes, 4),
-    )
+fn are_at_their_places(rt: &impl Abort, alloc: Global, bytes: &[u8]) -> bool {
+    is_read_from(rt, alloc, &Value::Null, bytes, 1, 2)
+        && is_refused(alloc, bytes, 3)
+        && is_refused(alloc, bytes, 4)
+        && is_refused_key(alloc, bytes, 4)
 }
 
 /// A value is read from a place on, whatever stands before and behind it; past the end none stands.
 #[test]
-fn places(rt: HostRuntime) -> Result<(), Fail> {
+fn places(rt: HostRuntime) {
     assert!(rt;
-        are_at_their_places(rt.alloc(), b"\xff\x01\x03")? && value_size(&Value::Function) == 1
+        are_at_their_places(&rt, rt.alloc(), b"\xff\x01\x03") && value_size(&Value::Function) == 1
     );
-    Ok(())
 }
 
 /// Whether a text is read from these bytes to their end, and written as them.
-fn is_text_key(alloc: Global, text: &str, bytes: &[u8]) -> Result<bool, Fail> {
-    let (key, end) = read_key(alloc, bytes, 0)?;
+fn is_text_key(rt: &impl Abort, alloc: Global, text: &str, bytes: &[u8]) -> bool {
+    let (key, end) = read_key(alloc, bytes, 0).expect(rt, "a key");
     let mut out = Vec::new(alloc);
-    write_key(&mut out, &key)?;
-    Ok(
-        end == bytes.len()
-            && matches!(&key, Key::Text(letter) if letter.as_str() == text)
-            && out.as_slice() == bytes,
-    )
+    write_key(&mut out, &key).expect(rt, "memory");
+    end == bytes.len()
+        && matches!(&key, Key::Text(letter) if letter.as_str() == text)
+        && out.as_slice() == bytes
 }
 
 /// The bytes of an array key with one of each other kind.
-fn array_written(alloc: Global) -> Result<Vec<u8>, Fail> {
+fn array_written(rt: &impl Abort, alloc: Global) -> Vec<u8> {
     let mut keys = Keys::new(alloc);
-    keys.push(Key::Number(1))?;
-    keys.push(Key::Date(-1))?;
-    keys.push(Key::Binary(Bytes::new(alloc)))?;
+    keys.push(Key::Number(1)).expect(rt, "memory");
+    keys.push(Key::Date(-1)).expect(rt, "memory");
+    keys.push(Key::Binary(Bytes::new(alloc)))
+        .expect(rt, "memory");
     let mut out = Vec::new(alloc);
-    write_key(&mut out, &Key::Array(keys))?;
-    Ok(out)
+    write_key(&mut out, &Key::Array(keys)).expect(rt, "memory");
+    out
 }
 
 /// Whether an array key of three is read from these bytes to their end.
-fn is_three_keys(alloc: Global, bytes: &[u8]) -> Result<bool, Fail> {
-    let (found, end) = read_key(alloc, bytes, 0)?;
-    Ok(end == bytes.len() && matches!(&found, Key::Array(keys) if keys.len() == 3))
+fn is_three_keys(rt: &impl Abort, alloc: Global, bytes: &[u8]) -> bool {
+    let (found, end) = read_key(alloc, bytes, 0).expect(rt, "a key");
+    end == bytes.len() && matches!(&found, Key::Array(keys) if keys.len() == 3)
 }
 
-fn is_array_key(alloc: Global, bytes: &[u8]) -> Result<bool, Fail> {
-    Ok(array_written(alloc)?.as_slice() == bytes && is_three_keys(alloc, bytes)?)
+fn is_array_key(rt: &impl Abort, alloc: Global, bytes: &[u8]) -> bool {
+    array_written(rt, alloc).as_slice() == bytes && is_three_keys(rt, alloc, bytes)
 }
 
 /// The key "a" of six bytes, and an array key with one of each other kind.
 #[test]
-fn keys(rt: HostRuntime) -> Result<(), Fail> {
+fn keys(rt: HostRuntime) {
     let letter = b"\x23\0\0\0\x01a";
     let array =
         b"\x25\0\0\0\x03\x21\0\0\0\0\0\0\0\x01\x22\xff\xff\xff\xff\xff\xff\xff\xff\x24\0\0\0\0";
     assert!(rt;
         letter.len() == 6
-            && is_text_key(rt.alloc(), "a", letter)?
-            && is_array_key(rt.alloc(), array)?
+            && is_text_key(&rt, rt.alloc(), "a", letter)
+            && is_array_key(&rt, rt.alloc(), array)
     );
-    Ok(())
 }
 
 const REFUSED_KEYS: [&[u8]; 7] = [
@@ -362,9 +346,8 @@ fn are_refused_keys(alloc: Global, rows: &[&[u8]]) -> bool {
 }
 
 #[test]
-fn refused_keys(rt: HostRuntime) -> Result<(), Fail> {
+fn refused_keys(rt: HostRuntime) {
     assert!(rt; are_refused_keys(rt.alloc(), &REFUSED_KEYS));
-    Ok(())
 }
 
 #[derive(Clone, Copy)]
@@ -392,10 +375,9 @@ const FIELDS: [Field; 9] = [
     Field::Value,
 ];
 
-fn put_key(alloc: Global, out: &mut Vec<u8>) -> Result<(), Fail> {
-    let (key, _) = read_key(alloc, b"\x23\0\0\0\x01k", 0)?;
-    write_key(out, &key)?;
-    Ok(())
+fn put_key(rt: &impl Abort, alloc: Global, out: &mut Vec<u8>) {
+    let (key, _) = read_key(alloc, b"\x23\0\0\0\x01k", 0).expect(rt, "a key");
+    write_key(out, &key).expect(rt, "memory");
 }
 
 fn put_one(out: &mut Vec<u8>, field: Field) -> Result<(), NoMemory> {
@@ -413,94 +395,90 @@ fn put_one(out: &mut Vec<u8>, field: Field) -> Result<(), NoMemory> {
 }
 
 /// The number that is read, of a field that is one and fits.
-fn number_of(rest: &mut &[u8], field: Field) -> Result<i64, SpellingError> {
+fn number_of(rt: &impl Abort, rest: &mut &[u8], field: Field) -> i64 {
     match field {
-        Field::Byte => Ok(i64::from(byte_from(rest)?)),
-        Field::Count => Ok(i64::from(count_from(rest)?)),
-        Field::Number => number_from(rest),
-        Field::Int => int_from(rest),
-        Field::Date => date_from(rest),
-        _ => Err(SpellingError::NotInGrammar),
+        Field::Byte => i64::from(byte_from(rest).expect(rt, "a byte")),
+        Field::Count => i64::from(count_from(rest).expect(rt, "a count")),
+        Field::Number => number_from(rest).expect(rt, "a number"),
+        Field::Int => int_from(rest).expect(rt, "an integer"),
+        Field::Date => date_from(rest).expect(rt, "a date"),
+        _ => panic!(rt; "no number"),
     }
 }
 
-fn text_said(alloc: Global, rest: &mut &[u8], said: &mut String) -> Result<(), Fail> {
-    let text = text_from(alloc, rest)?;
+fn text_said(rt: &impl Abort, alloc: Global, rest: &mut &[u8], said: &mut String) {
+    let text = text_from(alloc, rest).expect(rt, "a text");
     let _ = write!(said, "{} ", text.as_str());
-    Ok(())
 }
 
-fn key_said(alloc: Global, rest: &mut &[u8], said: &mut String) -> Result<(), Fail> {
-    match key_from(alloc, rest)? {
+fn key_said(rt: &impl Abort, alloc: Global, rest: &mut &[u8], said: &mut String) {
+    match key_from(alloc, rest).expect(rt, "a key") {
         Key::Text(name) => {
             let _ = write!(said, "{}", name.as_str());
-            Ok(())
         }
-        _ => Err(Fail::new("no text")),
+        _ => panic!(rt; "no text"),
     }
 }
 
-fn length_of_bytes(alloc: Global, rest: &mut &[u8]) -> Result<u64, SpellingError> {
-    Ok(bytes_from(alloc, rest)?.len() as u64)
+fn length_of_bytes(rt: &impl Abort, alloc: Global, rest: &mut &[u8]) -> u64 {
+    bytes_from(alloc, rest).expect(rt, "a byte string").len() as u64
 }
 
-fn size_of_value(alloc: Global, rest: &mut &[u8]) -> Result<u64, SpellingError> {
-    Ok(value_size(&value_from(alloc, rest)?))
+fn size_of_value(rt: &impl Abort, alloc: Global, rest: &mut &[u8]) -> u64 {
+    value_size(&value_from(alloc, rest).expect(rt, "a value"))
 }
 
 /// The word that is read, or the length of the bytes or the value.
-fn size_of(alloc: Global, rest: &mut &[u8], field: Field) -> Result<u64, SpellingError> {
+fn size_of(rt: &impl Abort, alloc: Global, rest: &mut &[u8], field: Field) -> u64 {
     match field {
-        Field::Word => word_from(rest),
-        Field::Bytes => length_of_bytes(alloc, rest),
-        Field::Value => size_of_value(alloc, rest),
-        _ => Err(SpellingError::NotInGrammar),
+        Field::Word => word_from(rest).expect(rt, "a word"),
+        Field::Bytes => length_of_bytes(rt, alloc, rest),
+        Field::Value => size_of_value(rt, alloc, rest),
+        _ => panic!(rt; "no size"),
     }
 }
 
 /// Reads one field, and writes what it is.
-fn read_one(alloc: Global, rest: &mut &[u8], said: &mut String, field: Field) -> Result<(), Fail> {
+fn read_one(rt: &impl Abort, alloc: Global, rest: &mut &[u8], said: &mut String, field: Field) {
     match field {
-        Field::Text => text_said(alloc, rest, said)?,
+        Field::Text => text_said(rt, alloc, rest, said),
         Field::Word | Field::Bytes | Field::Value => {
-            let _ = write!(said, "{} ", size_of(alloc, rest, field)?);
+            let _ = write!(said, "{} ", size_of(rt, alloc, rest, field));
         }
         _ => {
-            let _ = write!(said, "{} ", number_of(rest, field)?);
+            let _ = write!(said, "{} ", number_of(rt, rest, field));
         }
     }
-    Ok(())
 }
 
 /// Puts each field, and a key behind them.
-fn all_put(alloc: Global) -> Result<Vec<u8>, Fail> {
+fn all_put(rt: &impl Abort, alloc: Global) -> Vec<u8> {
     let mut out = Vec::new(alloc);
     for field in FIELDS {
-        put_one(&mut out, field)?;
+        put_one(&mut out, field).expect(rt, "memory");
     }
-    put_key(alloc, &mut out)?;
-    Ok(out)
+    put_key(rt, alloc, &mut out);
+    out
 }
 
 /// Reads each field, and a key behind them.
-fn all_read(alloc: Global, rest: &mut &[u8]) -> Result<String, Fail> {
+fn all_read(rt: &impl Abort, alloc: Global, rest: &mut &[u8]) -> String {
     let mut said = String::new(alloc);
     for field in FIELDS {
-        read_one(alloc, rest, &mut said, field)?;
+        read_one(rt, alloc, rest, &mut said, field);
     }
-    key_said(alloc, rest, &mut said)?;
-    Ok(said)
+    key_said(rt, alloc, rest, &mut said);
+    said
 }
 
 /// Each field and a key is put and read, one after the other.
 #[test]
-fn fields_one_after_the_other(rt: HostRuntime) -> Result<(), Fail> {
-    let out = all_put(rt.alloc())?;
+fn fields_one_after_the_other(rt: HostRuntime) {
+    let out = all_put(&rt, rt.alloc());
     let mut rest = out.as_slice();
-    let read = all_read(rt.alloc(), &mut rest)?;
+    let read = all_read(&rt, rt.alloc(), &mut rest);
     assert!(rt;
         read.as_str() == "55 258 1099511627776 -2 ab 1 9007199254740992 -1 1 k"
             && (out.len(), rest.len()) == (55, 0)
     );
-    Ok(())
 }

@@ -3,7 +3,7 @@ use idb_base::GREATEST_LENGTH;
 use serde_json::Value as Json;
 use std::alloc::Global;
 use std::fmt::Write;
-use std::test::Fail;
+use std::process::Abort;
 use value_json::*;
 
 /// Documents with a reading, and as what the value is written.
@@ -120,76 +120,77 @@ const REFUSED: [&str; 36] = [
     "{\"a\":[{\"b\":1.5}]}",
 ];
 
-fn read(alloc: Global, text: &str) -> Result<Value, Fail> {
-    let document = Json::from_str(alloc, text)?;
-    Ok(value_from_json(alloc, &document)?)
+fn read(rt: &impl Abort, alloc: Global, text: &str) -> Value {
+    let document = Json::from_str(alloc, text).expect(rt, "a document");
+    value_from_json(alloc, &document).expect(rt, "a value")
 }
 
-fn document_again(alloc: Global, text: &str) -> Result<Json, Fail> {
-    let value = read(alloc, text)?;
-    Ok(value_to_json(alloc, &value)?)
+fn document_again(rt: &impl Abort, alloc: Global, text: &str) -> Json {
+    let value = read(rt, alloc, text);
+    value_to_json(alloc, &value).expect(rt, "memory")
 }
 
-fn written_again(alloc: Global, text: &str) -> Result<String, Fail> {
-    Ok(document_again(alloc, text)?.to_string(alloc)?)
+fn written_again(rt: &impl Abort, alloc: Global, text: &str) -> String {
+    document_again(rt, alloc, text)
+        .to_string(alloc)
+        .expect(rt, "memory")
 }
 
-fn push_again(alloc: Global, out: &mut Vec<u8>, text: &str) -> Result<(), Fail> {
-    let value = read(alloc, text)?;
-    push_value_text(alloc, out, &value)?;
-    Ok(())
+fn push_again(rt: &impl Abort, alloc: Global, out: &mut Vec<u8>, text: &str) {
+    let value = read(rt, alloc, text);
+    push_value_text(alloc, out, &value).expect(rt, "memory");
 }
 
 /// The text again, behind one byte.
-fn pushed(alloc: Global, text: &str) -> Result<Vec<u8>, Fail> {
-    let mut out = vec![in alloc; b'.']?;
-    push_again(alloc, &mut out, text)?;
-    Ok(out)
+fn pushed(rt: &impl Abort, alloc: Global, text: &str) -> Vec<u8> {
+    let mut out = vec![in alloc; b'.'].expect(rt, "memory");
+    push_again(rt, alloc, &mut out, text);
+    out
 }
 
-fn is_written_as(alloc: Global, text: &str, written: &str) -> Result<bool, Fail> {
-    Ok(written_again(alloc, text)?.as_str() == written)
+fn is_written_as(rt: &impl Abort, alloc: Global, text: &str, written: &str) -> bool {
+    written_again(rt, alloc, text).as_str() == written
 }
 
-fn is_pushed_as(alloc: Global, text: &str, written: &str) -> Result<bool, Fail> {
-    Ok(pushed(alloc, text)?.as_slice().get(1..) == Some(written.as_bytes()))
+fn is_pushed_as(rt: &impl Abort, alloc: Global, text: &str, written: &str) -> bool {
+    pushed(rt, alloc, text).as_slice().get(1..) == Some(written.as_bytes())
 }
 
-fn is_refused(alloc: Global, text: &str) -> Result<bool, Fail> {
-    let document = Json::from_str(alloc, text)?;
-    Ok(matches!(value_from_json(alloc, &document), Err(JsonError::Spelling)))
+fn is_refused(rt: &impl Abort, alloc: Global, text: &str) -> bool {
+    let document = Json::from_str(alloc, text).expect(rt, "a document");
+    matches!(value_from_json(alloc, &document), Err(JsonError::Spelling))
 }
 
 /// The first of the documents that isn't written as it is wanted, or nothing.
-fn first_unlike(alloc: Global) -> Result<&'static str, Fail> {
+fn first_unlike(rt: &impl Abort, alloc: Global) -> &'static str {
     for (text, written) in &READ {
-        if !(is_written_as(alloc, *text, *written)? && is_pushed_as(alloc, *text, *written)?) {
-            return Ok(*text);
+        if !(is_written_as(rt, alloc, *text, *written)
+            && is_pushed_as(rt, alloc, *text, *written))
+        {
+            return *text;
         }
     }
-    Ok("")
+    ""
 }
 
 #[test]
-fn each_form_is_read_and_written(rt: HostRuntime) -> Result<(), Fail> {
-    assert_eq!(rt; first_unlike(rt.alloc())?, "");
-    Ok(())
+fn each_form_is_read_and_written(rt: HostRuntime) {
+    assert_eq!(rt; first_unlike(&rt, rt.alloc()), "");
 }
 
 /// The first of the documents that isn't refused, or nothing.
-fn first_read(alloc: Global) -> Result<&'static str, Fail> {
+fn first_read(rt: &impl Abort, alloc: Global) -> &'static str {
     for text in &REFUSED {
-        if !is_refused(alloc, *text)? {
-            return Ok(*text);
+        if !is_refused(rt, alloc, *text) {
+            return *text;
         }
     }
-    Ok("")
+    ""
 }
 
 #[test]
-fn what_has_no_reading_is_refused(rt: HostRuntime) -> Result<(), Fail> {
-    assert_eq!(rt; first_read(rt.alloc())?, "");
-    Ok(())
+fn what_has_no_reading_is_refused(rt: HostRuntime) {
+    assert_eq!(rt; first_read(&rt, rt.alloc()), "");
 }
 
 fn is_pair(pair: Option<&Pair>, key: i64, text: &str) -> bool {
@@ -216,10 +217,13 @@ fn has_two_pairs(map: &Value) -> bool {
 
 /// A repeated key keeps its first place and takes the last value.
 #[test]
-fn a_map_has_each_key_once(rt: HostRuntime) -> Result<(), Fail> {
-    let map = read(rt.alloc(), "{\"$map\":[[1,\"a\"],[2,\"b\"],[1,\"c\"]]}")?;
+fn a_map_has_each_key_once(rt: HostRuntime) {
+    let map = read(
+        &rt,
+        rt.alloc(),
+        "{\"$map\":[[1,\"a\"],[2,\"b\"],[1,\"c\"]]}",
+    );
     assert!(rt; has_two_pairs(&map));
-    Ok(())
 }
 
 /// A key to be made.
@@ -241,71 +245,67 @@ const KEYS: [Made; 5] = [
     Made::EmptyArray,
 ];
 
-fn text_of(alloc: Global, s: &str) -> Result<Text, Fail> {
-    if s.len() > GREATEST_LENGTH {
-        return Err(Fail::new("a text that is too long"));
-    }
-    Ok(Text::copy_of(alloc, s)?)
+fn text_of(rt: &impl Abort, alloc: Global, s: &str) -> Text {
+    assert!(rt; s.len() <= GREATEST_LENGTH);
+    Text::copy_of(alloc, s).expect(rt, "memory")
 }
 
-fn two_bytes(alloc: Global) -> Result<Bytes, Fail> {
-    let bytes = vec![in alloc; 0, 171]?;
-    Ok(Bytes::from_vec(alloc, bytes)?)
+fn two_bytes(rt: &impl Abort, alloc: Global) -> Bytes {
+    let bytes = vec![in alloc; 0, 171].expect(rt, "memory");
+    Bytes::from_vec(alloc, bytes).expect(rt, "memory")
 }
 
-fn key_of(alloc: Global, made: &Made) -> Result<Key, Fail> {
+fn key_of(rt: &impl Abort, alloc: Global, made: &Made) -> Key {
     match made {
-        Made::Number(n) => Ok(Key::Number(*n)),
-        Made::Date(d) => Ok(Key::Date(*d)),
-        Made::Text(s) => Ok(Key::Text(text_of(alloc, s)?)),
-        Made::Binary => Ok(Key::Binary(two_bytes(alloc)?)),
-        Made::EmptyArray => Ok(Key::Array(Keys::new(alloc))),
+        Made::Number(n) => Key::Number(*n),
+        Made::Date(d) => Key::Date(*d),
+        Made::Text(s) => Key::Text(text_of(rt, alloc, s)),
+        Made::Binary => Key::Binary(two_bytes(rt, alloc)),
+        Made::EmptyArray => Key::Array(Keys::new(alloc)),
     }
 }
 
-fn keys_of(alloc: Global, made: &[Made]) -> Result<Vec<Key>, Fail> {
+fn keys_of(rt: &impl Abort, alloc: Global, made: &[Made]) -> Vec<Key> {
     let mut keys = Vec::new(alloc);
     for one in made {
-        keys.push(key_of(alloc, one)?)?;
+        keys.push(key_of(rt, alloc, one)).expect(rt, "memory");
     }
-    Ok(keys)
+    keys
 }
 
-fn array_key(alloc: Global, made: &[Made]) -> Result<Key, Fail> {
-    let keys = keys_of(alloc, made)?;
-    if keys.len() > GREATEST_LENGTH {
-        return Err(Fail::new("a list that is too long"));
-    }
-    Ok(Key::Array(Keys::from_vec(alloc, keys)?))
+fn array_key(rt: &impl Abort, alloc: Global, made: &[Made]) -> Key {
+    let keys = keys_of(rt, alloc, made);
+    assert!(rt; keys.len() <= GREATEST_LENGTH);
+    Key::Array(Keys::from_vec(alloc, keys).expect(rt, "memory"))
 }
 
-fn key_written(alloc: Global, key: &Key) -> Result<String, Fail> {
-    Ok(key_to_json(alloc, key)?.to_string(alloc)?)
+fn key_written(rt: &impl Abort, alloc: Global, key: &Key) -> String {
+    key_to_json(alloc, key)
+        .expect(rt, "memory")
+        .to_string(alloc)
+        .expect(rt, "memory")
 }
 
-fn key_pushed(alloc: Global, key: &Key) -> Result<Vec<u8>, Fail> {
+fn key_pushed(rt: &impl Abort, alloc: Global, key: &Key) -> Vec<u8> {
     let mut out = Vec::new(alloc);
-    push_key_text(alloc, &mut out, key)?;
-    Ok(out)
+    push_key_text(alloc, &mut out, key).expect(rt, "memory");
+    out
 }
 
-fn is_key_written_as(alloc: Global, key: &Key, text: &str) -> Result<bool, Fail> {
-    Ok(
-        key_written(alloc, key)?.as_str() == text
-            && key_pushed(alloc, key)?.as_slice() == text.as_bytes(),
-    )
+fn is_key_written_as(rt: &impl Abort, alloc: Global, key: &Key, text: &str) -> bool {
+    key_written(rt, alloc, key).as_str() == text
+        && key_pushed(rt, alloc, key).as_slice() == text.as_bytes()
 }
 
-fn is_array_written_as(alloc: Global, text: &str) -> Result<bool, Fail> {
-    let key = array_key(alloc, &KEYS)?;
-    is_key_written_as(alloc, &key, text)
+fn is_array_written_as(rt: &impl Abort, alloc: Global, text: &str) -> bool {
+    let key = array_key(rt, alloc, &KEYS);
+    is_key_written_as(rt, alloc, &key, text)
 }
 
 #[test]
-fn a_key_is_written_as_its_value(rt: HostRuntime) -> Result<(), Fail> {
+fn a_key_is_written_as_its_value(rt: HostRuntime) {
     let text = "[1,{\"$date\":-2},\"$\",{\"$bytes\":\"00ab\"},[]]";
-    assert!(rt; is_array_written_as(rt.alloc(), text)?);
-    Ok(())
+    assert!(rt; is_array_written_as(&rt, rt.alloc(), text));
 }
 
 /// The kind of a level and how many documents it holds, in both its lists.
@@ -329,11 +329,10 @@ fn told_of(alloc: Global, document: &Json) -> (&'static str, usize, usize) {
 }
 
 /// Writes what is told of the level of a document.
-fn tell(alloc: Global, said: &mut String, text: &str) -> Result<(), Fail> {
-    let document = Json::from_str(alloc, text)?;
+fn tell(rt: &impl Abort, alloc: Global, said: &mut String, text: &str) {
+    let document = Json::from_str(alloc, text).expect(rt, "a document");
     let (kind, len, names) = told_of(alloc, &document);
     let _ = write!(said, "{kind} {len} {names}; ");
-    Ok(())
 }
 
 const LEVELS: [&str; 10] = [
@@ -349,20 +348,19 @@ const LEVELS: [&str; 10] = [
     "{\"$set\":{}}",
 ];
 
-fn levels(alloc: Global) -> Result<String, Fail> {
+fn levels(rt: &impl Abort, alloc: Global) -> String {
     let mut said = String::new(alloc);
     for text in &LEVELS {
-        tell(alloc, &mut said, text)?;
+        tell(rt, alloc, &mut said, text);
     }
-    Ok(said)
+    said
 }
 
 /// What a level holds isn't looked at: `{"$x":1}` has no reading, and stands in each of these.
 #[test]
-fn one_level_is_read(rt: HostRuntime) -> Result<(), Fail> {
+fn one_level_is_read(rt: HostRuntime) {
     assert_eq!(rt;
-        levels(rt.alloc())?.as_str(),
+        levels(&rt, rt.alloc()).as_str(),
         "leaf 0 0; array 1 0; array 2 0; named array 2 1; object 1 0; named object 0 1; map 1 0; set 1 0; refused 0 0; refused 0 0; "
     );
-    Ok(())
 }

@@ -27,11 +27,15 @@ fits_as : (name : Name) (version : ℕ) (names : List Name) (front : Front Scrip
 fits_as name version names front threw schema new begun is = subst (FitsWhole None) (sym (is ∙ ap (λ s. scripted_body mode.VersionChange s names front threw) new)) (first_fits name version names front threw)
 
 pub returns-clause-fits : goal.returns-clause-fits
-returns-clause-fits c = fits_as _ 1 _ _ _ _ (c.in_ok-schema.ensures ∙ ap (new_schema _ 1) c.new-stores.ensures) c.new-tx.result (ap (λ (b : BegunState). b.body) c.new-tx.ensures)
+returns-clause-fits g c =
+    let is = rw c.expect-schema.ensures at c.new.ensures in
+    fits_as _ 1 _ _ _ _ (is ∙ ap (new_schema _ 1) c.new-stores.ensures) c.new-tx.result (ap (λ (b : BegunState). b.body) c.new-tx.ensures)
 
 logs_as : (name : Name) (names : List Name) (front : Front ScriptHandler) (threw : Bool) (schema : SchemaData) → schema ≡ new_schema name 1 []
     → (begun : BegunState) → begun.body ≡ scripted_body mode.VersionChange schema names front threw → IsLoggableBody begun.body
 logs_as name names front threw schema new begun is = subst IsLoggableBody (sym (is ∙ ap (λ s. scripted_body mode.VersionChange s names front threw) new)) (record { version = λ e. refl; few = omega arith })
 
 pub returns-clause-loggable : goal.returns-clause-loggable
-returns-clause-loggable c = logs_as _ _ _ _ _ (c.in_ok-schema.ensures ∙ ap (new_schema _ 1) c.new-stores.ensures) c.new-tx.result (ap (λ (b : BegunState). b.body) c.new-tx.ensures)
+returns-clause-loggable g c =
+    let is = rw c.expect-schema.ensures at c.new.ensures in
+    logs_as _ _ _ _ _ (is ∙ ap (new_schema _ 1) c.new-stores.ensures) c.new-tx.result (ap (λ (b : BegunState). b.body) c.new-tx.ensures)

@@ -20,4 +20,4 @@ fits_none body items none fits =
     subst (λ p. FitsWhole p body) (sym (ap (part_of scope) none ∙ ap (seen_by scope.access) (finite.get-empty name_cmp scope.database) ∙ none_seen scope.access)) fits
 
 pub run-requires-clause-fits : goal.run-requires-clause-fits
-run-requires-clause-fits c = fits_none _ _ c.new-databases.ensures c.in_ok-begun.ensures.fits
+run-requires-clause-fits g c = fits_none _ _ c.new-databases.ensures c.begun-begun.ensures.fits
