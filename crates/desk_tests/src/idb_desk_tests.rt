@@ -19,6 +19,14 @@ use std::alloc::Global;
 use std::fmt::Write;
 use std::process::Abort;
 
+mod desk_answers;
+mod random_acts;
+mod random_runs;
+mod seen_words;
+mod slow_answers;
+mod slow_desk;
+mod slow_steps;
+
 /// The least client: it makes a step where it may.
 fn make_if(desk: &mut Desk, step: DeskStep) -> Result<Option<ClientEvent>, NoMemory>
     requires { kept_of step ≡ None }
@@ -81,17 +89,17 @@ fn letter_text(rt: &impl Abort, alloc: Global, letter: char) -> Text {
     text(rt, alloc, name.as_str())
 }
 
-/// The schema of the database "d" at this version, with the stores "s" and "t".
-fn schema_at(rt: &impl Abort, alloc: Global, version: u64) -> Schema {
+/// The schema of a database at this version: each letter is a store's name.
+fn schema_at(rt: &impl Abort, alloc: Global, name: &str, version: u64, letters: &str) -> Schema {
     let mut stores = StoreInfos::new(alloc);
-    for name in ["s", "t"] {
-        push_store(rt, alloc, &mut stores, name);
+    for letter in letters.chars() {
+        push_store(rt, alloc, &mut stores, letter);
     }
-    Schema::new(alloc, text(rt, alloc, "d"), version, stores).expect(rt, "memory")
+    Schema::new(alloc, text(rt, alloc, name), version, stores).expect(rt, "memory")
 }
 
-fn push_store(rt: &impl Abort, alloc: Global, stores: &mut StoreInfos, name: &str) {
-    let name = text(rt, alloc, name);
+fn push_store(rt: &impl Abort, alloc: Global, stores: &mut StoreInfos, letter: char) {
+    let name = letter_text(rt, alloc, letter);
     if stores.can_push(&name) {
         stores
             .push(StoreInfo {
@@ -213,7 +221,7 @@ fn upgraded(rt: &impl Abort, alloc: Global, client: u32, number: u64, version: u
         client,
         number,
         outcome: Outcome::Committed,
-        kept: Some(schema_at(rt, alloc, version)),
+        kept: Some(schema_at(rt, alloc, "d", version, "st")),
     }
 }
 
@@ -280,6 +288,11 @@ fn write_answer(said: &mut String, event: Option<&ClientEvent>) {
 /// Makes one edit, and writes what came of it.
 fn make(rt: &impl Abort, alloc: Global, desk: &mut Desk, said: &mut String, edit: &Edit) {
     let step = step_of(rt, alloc, desk, edit);
+    make_step(rt, alloc, desk, said, step)
+}
+
+/// Makes one step where it may be made, and writes what came of it.
+fn make_step(rt: &impl Abort, alloc: Global, desk: &mut Desk, said: &mut String, step: DeskStep) {
     if desk.can(&step) {
         write_token(said, step.token());
         let kept = kept_copy(rt, alloc, &step);

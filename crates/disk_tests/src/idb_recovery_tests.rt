@@ -25,18 +25,28 @@ const SECOND: &[u8] = b"\x00\x00\x00\x01\
 /// The payloads of a log, where its area is cut then, and which call of its disk fails.
 type Row = (&'static [&'static [u8]], Option<u64>, Option<u64>);
 
-/// A blank disk, and which call of it fails.
-fn blank_disk(rt: &impl Abort, alloc: Global, fails: Option<u64>) -> MemoryDisk {
+fn planned(
+    rt: &impl Abort,
+    alloc: Global,
+    fails: Option<u64>,
+    stop_after: Option<u64>,
+    image: Image,
+) -> MemoryDisk {
     let mut fail_at = Vec::new(alloc);
     if let Some(call) = fails {
         fail_at.push(call).expect(rt, "memory");
     }
     let plan = DiskPlan {
         fail_at,
-        stop_after: None,
-        image: Image::Kept,
+        stop_after,
+        image,
     };
-    MemoryDisk::with_room(alloc, 2_000_000, 100_000, plan).expect(rt, "memory")
+    MemoryDisk::with_room(alloc, 2000, 200, plan).expect(rt, "memory")
+}
+
+/// A blank disk, and which call of it fails.
+fn blank_disk(rt: &impl Abort, alloc: Global, fails: Option<u64>) -> MemoryDisk {
+    planned(rt, alloc, fails, None, Image::Kept)
 }
 
 fn new_log(rt: &impl Abort, alloc: Global, fails: Option<u64>) -> GateLog<MemoryDisk> {
@@ -345,4 +355,160 @@ fn a_look_shows_both_areas_and_what_a_recovery_gives(rt: HostRuntime) {
          Zero@18 = Zero@18\n\
          fault = 1+1\n"
     );
+}
+
+const IMAGES: [Image; 4] = [
+    Image::Kept,
+    Image::Dropped,
+    Image::Byte(0xa5),
+    Image::Byte(0),
+];
+
+/// The disk of a log that gets both batches, as far as they can be appended.
+fn written(rt: &impl Abort, alloc: Global, mut log: GateLog<MemoryDisk>) -> MemoryDisk {
+    for payload in [FIRST, SECOND] {
+        let frame = Frame::new(alloc, payload).expect(rt, "memory");
+        let _ = log.append(&frame);
+    }
+    log.into_disk()
+}
+
+/// What a stop at this call of a log leaves of its area, which was blank and gets both batches.
+fn torn_bytes(rt: &impl Abort, alloc: Global, call: u64, image: Image) -> Vec<u8> {
+    let disk = planned(rt, alloc, None, call.checked_sub(1), image);
+    let mut disk = match GateLog::load(alloc, disk) {
+        Ok(opened) => written(rt, alloc, opened.0),
+        Err(error) => error.1,
+    };
+    let _ = disk.restart();
+    Vec::from_slice(alloc, disk.bytes(Area::Zero)).expect(rt, "memory")
+}
+
+/// The databases of such an area, by its open gates: that of its head, that before the upgrade, and that before the put.
+fn due_of(bytes: &[u8]) -> &'static str {
+    let is_open = |place: usize| bytes.get(place) == Some(&0xa5);
+    match (is_open(0) && is_open(17), is_open(69)) {
+        (true, true) => "1+1",
+        (true, false) => "1+0",
+        _ => "0",
+    }
+}
+
+/// A disk with this area, written and synced in two calls, and trouble at one of the calls behind them; at 0 there is none.
+fn disk_with(
+    rt: &impl Abort,
+    alloc: Global,
+    bytes: &[u8],
+    stops: bool,
+    call: u64,
+    image: Image,
+) -> MemoryDisk {
+    let fails = if call == 0 { None } else { call.checked_add(2) };
+    let stop_after = if stops && call > 0 {
+        call.checked_add(1)
+    } else {
+        None
+    };
+    let mut disk = planned(rt, alloc, fails, stop_after, image);
+    let _ = disk.write_at(Area::Zero, 0, bytes);
+    let _ = disk.sync(Area::Zero);
+    disk
+}
+
+/// Three recoveries: with a stop or a failing call, after it, and behind a restart. The first one meets a fault where there is trouble, and the
+/// others find what the area gives.
+fn try_call<T: Tables>(
+    rt: &impl Abort,
+    alloc: Global,
+    bytes: &[u8],
+    stops: bool,
+    call: u64,
+    image: Image,
+    wrong: &mut String,
+) {
+    let due = due_of(bytes);
+    let mut wanted = String::new(alloc);
+    write!(
+        wanted,
+        "{} {due} {due}",
+        if call == 0 { due } else { "fault" }
+    )
+    .expect(rt, "memory");
+    let mut said = String::new(alloc);
+    let disk = disk_with(rt, alloc, bytes, stops, call, image);
+    let mut disk = tell_recovered::<T>(rt, alloc, &mut said, disk, "");
+    for restarts in [stops, true] {
+        if restarts {
+            let _ = disk.restart();
+        }
+        push(rt, &mut said, " ");
+        disk = tell_recovered::<T>(rt, alloc, &mut said, disk, "");
+    }
+    if said.as_str() != wanted.as_str() {
+        write!(wrong, "\n{bytes:?} {stops} {call} {image:?}: {said}\n").expect(rt, "memory");
+    }
+}
+
+/// No trouble, and trouble at each of these calls.
+fn try_calls<T: Tables>(
+    rt: &impl Abort,
+    alloc: Global,
+    bytes: &[u8],
+    stops: bool,
+    calls: u64,
+    image: Image,
+    wrong: &mut String,
+) {
+    for call in 0..=calls {
+        try_call::<T>(rt, alloc, bytes, stops, call, image, wrong);
+    }
+}
+
+/// The same at each call that the recovery of this area makes: how many calls these are.
+fn try_area<T: Tables>(rt: &impl Abort, alloc: Global, bytes: &[u8], wrong: &mut String) -> u64 {
+    let disk = disk_with(rt, alloc, bytes, false, 0, Image::Kept);
+    let disk = tell_recovered::<T>(rt, alloc, &mut String::new(alloc), disk, "");
+    let calls = disk.calls_made().wrapping_sub(2);
+    for image in IMAGES {
+        try_calls::<T>(rt, alloc, bytes, true, calls, image, wrong);
+        try_calls::<T>(rt, alloc, bytes, false, calls, image, wrong);
+    }
+    calls
+}
+
+/// The areas that a stop at one of these calls of a log leaves: what each gives, and in how few calls one was recovered.
+fn try_areas<T: Tables>(rt: &impl Abort, alloc: Global, image: Image, said: &mut String) -> u64 {
+    let mut fewest = u64::MAX;
+    write!(said, "{image:?}").expect(rt, "memory");
+    for call in [1, 6, 11, 12, 13, 14, 15, 16, 17, 18, 19, 20] {
+        let bytes = torn_bytes(rt, alloc, call, image);
+        write!(said, " {}", due_of(&bytes)).expect(rt, "memory");
+        let calls = try_area::<T>(rt, alloc, &bytes, said);
+        if calls < fewest {
+            fewest = calls;
+        }
+    }
+    writeln!(said).expect(rt, "memory");
+    fewest
+}
+
+const FOUND: &str = "\
+    Kept 0 0 0 0 0 1+0 1+0 1+0 1+0 1+1 1+1 1+1\n\
+    Dropped 0 0 0 0 0 0 0 1+0 1+0 1+0 1+0 1+1\n\
+    Byte(165) 0 0 0 0 0 1+0 1+0 1+0 1+0 1+1 1+1 1+1\n\
+    Byte(0) 0 0 0 0 0 0 0 1+0 1+0 1+0 1+0 1+1\n";
+
+/// The log makes eleven calls on a blank disk, and four for each batch, of which the third opens its gate; a stop behind them tears nothing. A
+/// recovery makes ten at least.
+#[test]
+fn trouble_at_any_call_of_a_recovery_changes_nothing(rt: HostRuntime) {
+    let mut said = String::new(rt.alloc());
+    let mut fewest = u64::MAX;
+    for image in IMAGES {
+        let calls = try_areas::<FlatTables>(&rt, rt.alloc(), image, &mut said);
+        if calls < fewest {
+            fewest = calls;
+        }
+    }
+    assert_eq!(rt; (said.as_str(), fewest >= 10), (FOUND, true));
 }
