@@ -7,9 +7,9 @@ use name_queues::ConnId;
 pub enum Stand {
     /// It was asked; its client has no connection of it.
     Asked,
-    /// Its upgrade drew a number and isn't finished.
+    /// Its upgrade drew a number and isn't finished; its client has the connection.
     Upgrading,
-    /// The connection that it made is its client's.
+    /// Its client was given the connection that it made, and hasn't closed it; an upgrade that aborted or a fault may have.
     Given,
     /// Its client closed the connection.
     Shut,
