@@ -5,6 +5,7 @@ ghost use Rattle.index_tables.specs.RecordRows.{Records, index_rows};
 ghost use Rattle.indexed_records.specs.Matches.{InStep};
 ghost use Rattle.indexed_records.specs.Walks.{IsInserted};
 
+use crate::emptying::boxed;
 use crate::growing::{complete, fill};
 use idb_base::NoMemory;
 use idb_schema::{IndexInfo, IndexInfos};
@@ -13,12 +14,13 @@ use std::alloc::Global;
 use std::marker::Model;
 use std::mem;
 
-/// An index that was taken out of its store: the room that putting it back needs is kept with it.
+/// An index that was taken out of its store: the room that putting it back needs is kept with it. Its table is boxed, so that a list of
+/// changes takes little room for each.
 #[derive(Drop)]
 pub struct Dropped<T: Tables> {
     place: usize,
     index: IndexInfo,
-    table: IndexTable<T>,
+    table: Box<IndexTable<T>>,
     spare: usize,
     infos: Vec<IndexInfo>,
     tables: Vec<IndexTable<T>>,
@@ -37,13 +39,13 @@ impl<T: Tables> Model for Dropped<T> {
     ghost view = { λ a. record {
       place = a.place;
       index = a.index;
-      rows = a.table.rows;
+      rows = a.table.value.rows;
       spare = a.spare;
       width = a.width;
     } };
 
     ghost invariant = { λ a. (a.infos.items ≡ []) × (a.tables.items ≡ []) × (a.width ≤ vec_capacity a.infos)
-        × (a.width ≤ vec_capacity a.tables) × (a.spare ≤ a.table.spare) };
+        × (a.width ≤ vec_capacity a.tables) × (a.spare ≤ a.table.value.spare) };
 }
 
 impl<T: Tables> Dropped<T> {
@@ -77,6 +79,7 @@ pub(crate) fn taken_at<T: Tables>(
     ensures spare { IfOk result (λ d. d.spare ≡ spare) }
     ensures width { IfOk result (λ d. d.width ≡ length indexes.old) }
 {
+    let empty = Box::new(alloc, IndexTable::new(alloc))?;
     complete(alloc, indexes, tables)?;
     let width = indexes.len();
     let infos = Vec::with_capacity(alloc, width)?;
@@ -86,7 +89,7 @@ pub(crate) fn taken_at<T: Tables>(
     Ok(Dropped {
         place,
         index,
-        table,
+        table: boxed(empty, table),
         spare,
         infos,
         tables: room,
@@ -170,6 +173,6 @@ pub(crate) fn insert_both<T: Tables>(
         mem::replace(tables, Vec::new(alloc)),
         room,
         place,
-        table,
+        Box::into_inner(table),
     );
 }

@@ -35,7 +35,7 @@ fn lists_in_each(
     ensures { IfOk result (λ rows. rows.items
         ≡ rows_in_indexes indexes.now (key_tree_of key.now) (tree_of value.now)) }
 {
-    let mut lists = Vec::new(alloc);
+    let mut lists = Vec::with_capacity(alloc, indexes.len())?;
     for place in 0..indexes.len() {
         if let Some(index) = indexes.at(place) {
             lists.push(rows_in_one(alloc, index, key, value)?)?;
@@ -65,7 +65,7 @@ pub(crate) fn rows_in_one(
 fn row_of_key(alloc: Global, key: Key, primary: &Key) -> Result<Rows, NoMemory>
     ensures { IfOk result (λ rows. rows ≡ (key_tree_of key, key_tree_of primary.now) ∷ []) }
 {
-    let mut rows = Vec::new(alloc);
+    let mut rows = Vec::with_capacity(alloc, 1)?;
     let primary = primary.copy(alloc)?;
     rows.push(Row { key, primary })?;
     Ok(Rows::from_vec(rows))
@@ -83,7 +83,7 @@ fn copied_row(alloc: Global, key: &Key, primary: &Key) -> Result<Row, NoMemory>
 fn rows_of_keys(alloc: Global, keys: &Keys, primary: &Key) -> Result<Rows, NoMemory>
     ensures { IfOk result (λ rows. rows ≡ map (λ k. (k, key_tree_of primary.now)) keys.now) }
 {
-    let mut rows = Vec::new(alloc);
+    let mut rows = Vec::with_capacity(alloc, keys.len())?;
     for place in 0..keys.len() {
         if let Some(key) = keys.at(place) {
             rows.push(copied_row(alloc, key, primary)?)?;

@@ -18,7 +18,8 @@ use Rattle.report_lines.specs.declared.reports.Report.{Report}
 use Rattle.report_lines.specs.declared.reports.ReportEnd.{ReportEnd}
 use Rattle.report_lines.specs.declared.reports.ReportEnd.TheVariants as end
 use Rattle.script_statements.specs.declared.script.ScriptSession.{ScriptSession}
-use Rattle.script_runner.specs.Sessions.{SessionRun, SessionDone, IsLeftBy, GivenAfter, starts_of, starts_after_run, LeavesAfter, BeginsAfter, AreReported, last_run, texts_of, one_if_fault, fault_ends, IsCounted, EndsBetween, EndsWithin, IsCutOff}
+use Rattle.legal_sessions.specs.Legal.{report_end}
+use Rattle.script_runner.specs.Sessions.{SessionRun, SessionDone, IsLeftBy, GivenAfter, starts_of, starts_after_run, LeavesAfter, BeginsAfter, AreReported, last_run, texts_of, one_if_fault, fault_ends, IsCounted, StopsBetween, EndsBetween, EndsByFault, EndsWithin, IsCutOff}
 use Rattle.script_runner.specs.Running.{IsOpenedOn, IsUnopened, RanOn, StopsIn, StopsBy, EndsBy, RanSoFar}
 use Rattle.script_runner.specs.Stops.{stop_of_recovery}
 use Rattle.script_runner.specs.declared.stops.Stop.{Stop}
@@ -76,6 +77,7 @@ ran_so old left number session report opening here reports started fault = recor
   opened = record { told = refl; started = refl; found_so = here };
   started = started;
   legal = reports.legal;
+  cause = reports.cause;
   fault = fault;
   images = reports.images;
 }
@@ -90,10 +92,11 @@ unopened_stops old left e why is unopened fault damage = subst (λ w. StopsBy �
     by_error (error.Damaged area place) fault damage = (unopened, damage area place refl)
     by_error error.NoMemory fault damage = inl unopened
 
-pub stopped_in : (old left : DiskView) (opening : Items) → WhereTold old (λ areas. found areas ≡ Ok opening) → StopsOn opening left → StopsIn old left
-stopped_in old left opening here stops = record {
+pub stopped_in : (old mid left : DiskView) (opening : Items) → WhereTold old (λ areas. found areas ≡ Ok opening) → old.faults ≤ mid.faults → StopsOn opening mid left → StopsIn old left
+stopped_in old mid left opening here since stops = record {
   run = record { told = old.reads; starts = old.starts; opening = opening; commits = stops.commits; end = stops.log_end };
   opened = record { told = refl; started = refl; found_so = here };
+  fault = λ e. rose_since old.faults mid.faults left.faults since (stops.fault e);
   images = stops.images;
 }
 
@@ -101,6 +104,12 @@ stopped_in old left opening here stops = record {
 pub counted_later : (before many then_ now : ℕ) → IsCounted before many then_ → then_ ≤ now → IsCounted before many now
 counted_later before many then_ now (inl c) le = inl (omega (arith, c, le))
 counted_later before many then_ now (inr most) le = inr (omega (arith, most, le))
+
+-- one fault more
+pub counted_risen : (before many then_ now : ℕ) → IsCounted before many then_ → Rose then_ now → IsCounted before (many + 1) now
+counted_risen before many then_ now (inl c) (inl less) = inl (omega (arith, c, less))
+counted_risen before many then_ now (inr most) (inl less) = inr (omega (arith, most, less))
+counted_risen before many then_ now c (inr most) = inr most
 
 fault_ends_more : (done : List SessionDone) (d : SessionDone) → fault_ends (done ++ d ∷ []) ≡ fault_ends done + one_if_fault d.report.end
 fault_ends_more [] d = omega arith
@@ -122,7 +131,7 @@ counted_more before then_ mid now done d c le more rose = subst (λ n. IsCounted
 
 -- of a session that ran to its report there is none after all
 pub ran_unreported : (old left : DiskView) (number : ℕ) (session : ScriptSession) (report : Report) → RanOn old left number session report → StopsIn old left
-ran_unreported old left number session report ran = record { run = ran.run; opened = ran.opened; images = ran.images }
+ran_unreported old left number session report ran = record { run = ran.run; opened = ran.opened; fault = λ e. ran.fault (ran.legal.told.end ∙ e); images = ran.images }
 
 -- ---- all sessions
 pub none_ran : (entry : DiskView) (all rest : List ScriptSession) (held : Option (List ℕ)) → rest ≡ all → RanSoFar entry entry all rest held held 0
@@ -161,6 +170,11 @@ module _ (entry now : DiskView) (all rest : List ScriptSession) (held held_now :
     ran.appended,
   )
 
+  pub stands_faulted : (left : DiskView) → NoNewImage now left → now.faults ≤ left.faults → Rose now.faults left.faults → EndsByFault entry left all held held_now
+  stands_faulted left none_new more rose =
+      let ends = stands_still left none_new more in
+      (ends.0, (ends.1, (counted_risen entry.faults (fault_ends ran.done) now.faults left.faults ran.counted rose, ends.2)))
+
 module _ (entry now mid left : DiskView) (all : List ScriptSession) (session : ScriptSession) (rest : List ScriptSession) (held held_now held_then : Option (List ℕ)) (number next : ℕ)
     (ran : RanSoFar entry now all (session ∷ rest) held held_now number) (one : next ≡ number + 1)
     (none_new : NoNewImage now mid) (first : number ≡ 0 → mid.reads ≡ now.reads) (again : mid.starts ≡ (if number == 0 then now.starts else now.starts + 1)) (told : WhereTold mid now.may_leave) (so_far : now.faults ≤ mid.faults) (more : mid.faults ≤ left.faults) where
@@ -184,7 +198,7 @@ module _ (entry now mid left : DiskView) (all : List ScriptSession) (session : S
     done = record { run = run.run; report = report; closing = run.closing }
 
     reported_more : AreReported entry None 1 (ran.front ++ session ∷ []) (ran.done ++ done ∷ [])
-    reported_more = one_more entry None 1 next ran.front ran.done session done (omega (arith, one, ran.many)) ran.reported (begun_on entry mid last run.run given started run.opened) run.legal
+    reported_more = one_more entry None 1 next ran.front ran.done session done (omega (arith, one, ran.many)) ran.reported (begun_on entry mid last run.run given started run.opened) (run.legal, run.cause)
 
     leaves_more : LeavesAfter entry (last_run None (ran.done ++ done ∷ [])) left
     leaves_more = subst (λ o. LeavesAfter entry o left) (sym (last_more None ran.done done)) run.images
@@ -245,7 +259,7 @@ module _ (entry now mid left : DiskView) (all : List ScriptSession) (session : S
       run = stops.run;
       begun = begun_on entry mid last stops.run given started stops.opened;
       images = stops.images;
-      counted = count_still;
+      counted = counted_one entry.faults (fault_ends ran.done) now.faults mid.faults left.faults (report_end stops.run.end) ran.counted so_far more stops.fault;
     },
     subst (λ h. Appends held h (texts_of ran.done)) (sym same) ran.appended,
   )
@@ -256,7 +270,15 @@ module _ (entry now mid left : DiskView) (all : List ScriptSession) (session : S
 
   pub have_stopped : (why : Stop) → StopsBy ((report : Report) × RanOn mid left next session report × AppendsFront held_now held_then (text_of_report report)) why mid left
       → ((why ≡ stop.WriteFault → ⊥) → held_then ≡ held_now) → is_some mid.reads ≡ is_some entry.reads → entry.faults ≤ mid.faults → EndsBy why entry left all held held_then
-  have_stopped stop.DiskFault stopped same tells since = (between stopped.0 (same (λ e. absurd cc)), rose_since entry.faults mid.faults left.faults since stopped.1)
+  have_stopped stop.DiskFault stopped same tells since = (
+    by_fault (between stopped.0 (same (λ e. absurd cc))) refl,
+    rose_since entry.faults mid.faults left.faults since stopped.1,
+  )
+    where
+      by_fault : (ends : EndsBetween entry left all held held_then) → ends.0 ≡ ran.done → EndsByFault entry left all held held_then
+      by_fault ends is =
+          let risen = counted_risen entry.faults (fault_ends ran.done) now.faults left.faults ran.counted (rose_since now.faults mid.faults left.faults so_far stopped.1) in
+          (ends.0, (ends.1, (subst (λ (done : List SessionDone). IsCounted entry.faults (fault_ends done + 1) left.faults) (sym is) risen, ends.2)))
   have_stopped (stop.Damaged area place) stopped same tells since = (
     between stopped.0 (same (λ e. absurd cc)),
     omega (arith, ap length ran.split, length-append ran.front (session ∷ rest)),

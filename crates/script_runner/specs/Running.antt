@@ -17,8 +17,9 @@ use Rattle.idb_recovery.specs.Recovered.{SameAnswer}
 use Rattle.report_lines.specs.declared.reports.Report.{Report}
 use Rattle.report_lines.specs.declared.reports.ReportEnd.TheVariants as end
 use Rattle.script_statements.specs.declared.script.ScriptSession.{ScriptSession}
-use Rattle.legal_sessions.specs.Legal.{IsLegalReport}
-use Rattle.script_runner.specs.Sessions.{SessionRun, SessionDone, IsLeftBy, starts_of, LeavesAfter, AreReported, last_run, texts_of, fault_ends, IsCounted, EndsBetween, EndsWithin, IsCutOff}
+use Rattle.legal_sessions.specs.Legal.{report_end, IsLegalReport}
+use Rattle.session_driver.specs.Ending.{HadCause}
+use Rattle.script_runner.specs.Sessions.{SessionRun, SessionDone, IsLeftBy, starts_of, LeavesAfter, AreReported, last_run, texts_of, fault_ends, IsCounted, EndsBetween, EndsByFault, EndsWithin, IsCutOff}
 use Rattle.script_runner.specs.declared.stops.Stop.{Stop}
 use Rattle.script_runner.specs.declared.stops.Stop.TheVariants as stop
 
@@ -36,6 +37,7 @@ pub record RanOn (old left : DiskView) (number : ℕ) (session : ScriptSession) 
   pub closing : Items
   pub opened : IsOpenedOn old run
   pub legal : IsLegalReport session number run.opening report run.commits run.end closing
+  pub cause : HadCause run.commits run.end
   pub started : left.starts ≡ old.starts
   pub fault : report.end ≡ end.Fault → Rose old.faults left.faults
   pub images : EachImage left (IsLeftBy run)
@@ -43,6 +45,7 @@ pub record RanOn (old left : DiskView) (number : ℕ) (session : ScriptSession) 
 pub record StopsIn (old left : DiskView) : Type 0 where
   pub run : SessionRun
   pub opened : IsOpenedOn old run
+  pub fault : report_end run.end ≡ end.Fault → Rose old.faults left.faults
   pub images : EachImage left (IsLeftBy run)
 
 abbrev pub StopsBy : (cut : Type 0) → Stop → (old left : DiskView) → Type 0
@@ -53,7 +56,7 @@ StopsBy cut stop.NoMemory old left = IsUnopened old left ⊎ StopsIn old left
 
 -- ---- all sessions
 abbrev pub EndsBy : Stop → (entry left : DiskView) → List ScriptSession → (held held_now : Option (List ℕ)) → Type 0
-EndsBy stop.DiskFault entry left sessions held held_now = EndsBetween entry left sessions held held_now × Rose entry.faults left.faults
+EndsBy stop.DiskFault entry left sessions held held_now = EndsByFault entry left sessions held held_now × Rose entry.faults left.faults
 EndsBy (stop.Damaged area place) entry left sessions held held_now =
     EndsBetween entry left sessions held held_now × (0 < length sessions) × WhereTold entry (λ areas. found areas ≡ Err (area, place))
 EndsBy stop.WriteFault entry left sessions held held_now = IsCutOff entry left sessions held held_now

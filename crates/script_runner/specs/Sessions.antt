@@ -8,14 +8,17 @@
 --     starts_after_run      it is started again once behind a session, before the next one is opened
 --     LeavesAfter           what a stop may leave after the last session that began; before the first, what it found as the disk came
 --     BeginsAfter           a session began on what the one before it left, behind a start, and its databases are those that are found there
---     IsReported            its report is a legal one, on these databases with these commits and this end of its log
+--     IsReported            its report is a legal one, on these databases with these commits and this end of its log, which is a failed flush
+--                           only where some were still to be written
 --     AreReported           each session has begun so, and is reported so, under its number
 --     last_run, texts_of    the last session that began;  the texts of the reports, one after another
 --     fault_ends            how many sessions ended by a fault of the disk
 --     IsCounted             a count of faults rose at least by so many, or stands at the end of its 64 bits
 --     StopsBetween          the first ones are reported, and then the program stopped
---     StopsWithin           the first ones are reported, and the next one began, and stopped before its report
+--     StopsWithin           the first ones are reported, and the next one began, and stopped before its report; a fault by which its log
+--                           ended is counted too
 --     EndsBetween, EndsWithin     so, and just the texts of these reports were written
+--     EndsByFault           between two sessions, by a fault of the disk: a fault was counted beside those that sessions ended by
 --     IsCutOff              of the last of the reports a front was written, and all of those before it
 use Rattle.std.specs.Prelude.{◌≡◌, ◌⊎◌, ⊤, ℕ, ◌+◌, ◌-◌, ◌^◌, ◌≤◌, List, [], ◌∷◌, ◌++◌, length, take, flat_map, Option, Some, None, Ok}
 use Rattle.std.specs.Option.{ForSome}
@@ -33,7 +36,8 @@ use Rattle.report_lines.specs.declared.reports.Report.{Report}
 use Rattle.report_lines.specs.declared.reports.ReportEnd.{ReportEnd}
 use Rattle.report_lines.specs.declared.reports.ReportEnd.TheVariants as end
 use Rattle.script_statements.specs.declared.script.ScriptSession.{ScriptSession}
-use Rattle.legal_sessions.specs.Legal.{IsLegalReport}
+use Rattle.legal_sessions.specs.Legal.{report_end, IsLegalReport}
+use Rattle.session_driver.specs.Ending.{HadCause}
 
 -- ---- one session
 pub record SessionRun : Type 0 where
@@ -75,7 +79,8 @@ pub record BeginsAfter (entry : DiskView) (before : Option SessionRun) (run : Se
 
 -- ---- all of them
 abbrev pub IsReported : ℕ → ScriptSession → SessionDone → Type 0
-IsReported number session done = IsLegalReport session number done.run.opening done.report done.run.commits done.run.end done.closing
+IsReported number session done =
+    IsLegalReport session number done.run.opening done.report done.run.commits done.run.end done.closing × HadCause done.run.commits done.run.end
 
 abbrev pub AreReported : DiskView → Option SessionRun → ℕ → List ScriptSession → List SessionDone → Type 0
 AreReported entry before number [] [] = ⊤
@@ -122,10 +127,14 @@ pub record StopsWithin (entry left : DiskView) (sessions : List ScriptSession) (
   pub run : SessionRun
   pub begun : BeginsAfter entry (last_run None done) run
   pub images : EachImage left (IsLeftBy run)
-  pub counted : IsCounted entry.faults (fault_ends done) left.faults
+  pub counted : IsCounted entry.faults (fault_ends done + one_if_fault (report_end run.end)) left.faults
 
 abbrev pub EndsBetween : (entry left : DiskView) → List ScriptSession → (held held_now : Option (List ℕ)) → Type 0
 EndsBetween entry left sessions held held_now = (done : List SessionDone) × StopsBetween entry left sessions done × Appends held held_now (texts_of done)
+
+abbrev pub EndsByFault : (entry left : DiskView) → List ScriptSession → (held held_now : Option (List ℕ)) → Type 0
+EndsByFault entry left sessions held held_now =
+    (done : List SessionDone) × StopsBetween entry left sessions done × IsCounted entry.faults (fault_ends done + 1) left.faults × Appends held held_now (texts_of done)
 
 abbrev pub EndsWithin : (entry left : DiskView) → List ScriptSession → (held held_now : Option (List ℕ)) → Type 0
 EndsWithin entry left sessions held held_now = (done : List SessionDone) × StopsWithin entry left sessions done × Appends held held_now (texts_of done)

@@ -3,6 +3,7 @@
 --     goes_on_still, goes_on        the book behind no step, and behind several
 --     fault_ends            a report that ends by a fault is of a log that met one
 --     reports_on            what it reports is legal, and each image of the disk is found as so many of its commits as may be kept
+--     risen                 a log that ended by a fault has counted it
 --     stops_on              the images alone
 use Rattle.std.proofs.Common.{◌≡◌, ◌⊎◌, ◌≤◌, ◌<◌, ℕ, ◌-◌, ◌^◌, Bool, true, false, List, [], ◌∷◌, map, inl, inr, refl, sym, ◌∙◌, ap, subst, arith}
 use Rattle.std.specs.FinMap as finite
@@ -98,8 +99,16 @@ reports_on law session number r seats done items lines report opening log_end le
   log_end = log_end;
   closing = items;
   legal = subst (λ (is : Items). IsLegalReport session number is report done.commits log_end items) opened (session_legal law session number r seats done items lines log_end report ran lines_are report_is);
+  cause = ran.cause;
   images = subst (λ (is : Items). EachImage left (IsFoundKept is done.commits log_end)) opened images;
 }
 
-pub stops_on : (done : DoneNow) (log_end : End) (left : DiskView) (opening : Items) → done.opening ≡ opening → EachImage left (IsFoundKept done.opening done.commits log_end) → StopsOn opening left
-stops_on done log_end left opening opened images = record { commits = done.commits; log_end = log_end; images = subst (λ (is : Items). EachImage left (IsFoundKept is done.commits log_end)) opened images }
+pub risen : {D : Type 0} (shows : D → DiskView) (fresh begun ran : SessionBookState D) (disk : D) → begun ≡ fresh → met_fault fresh.end ≡ false → BookGoesOn shows begun ran → disk ≡ ran.log.disk
+    → report_end ran.end ≡ end.Fault → Rose (shows fresh.log.disk).faults (shows disk).faults
+risen shows fresh begun ran disk is none goes left e =
+    subst (λ d. Rose (shows fresh.log.disk).faults (shows d).faults) (sym left)
+    (subst (λ (b : SessionBookState _). Rose (shows b.log.disk).faults (shows ran.log.disk).faults) is (goes.rose (ap (λ (b : SessionBookState _). met_fault b.end) is ∙ none) (fault_ends ran.end e)))
+
+pub stops_on : (done : DoneNow) (log_end : End) (old left : DiskView) (opening : Items) → done.opening ≡ opening → (report_end log_end ≡ end.Fault → Rose old.faults left.faults)
+    → EachImage left (IsFoundKept done.opening done.commits log_end) → StopsOn opening old left
+stops_on done log_end old left opening opened fault images = record { commits = done.commits; log_end = log_end; fault = fault; images = subst (λ (is : Items). EachImage left (IsFoundKept is done.commits log_end)) opened images }

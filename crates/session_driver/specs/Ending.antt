@@ -1,23 +1,27 @@
 -- How a session begins and ends.
 --     BeginsOn              the databases on which it begins, with the schemas and the lines of its opening
+--     HadCause              a last flush that failed had commits to write: some were in no batch that has ended
 --     RanTo                 it was driven to its end, and its log was ended
 --     ReportsOn             a legal report, with which each image of the disk is found as so many of its commits as may be kept
---     StopsOn               a session that stopped: so it is with the commits that its log was told
-use Rattle.std.specs.Prelude.{◌≡◌, ℕ, List, [], map}
+--     StopsOn               a session that stopped: so it is with the commits that its log was told, and a fault by which the log ended was
+--                           counted
+use Rattle.std.specs.Prelude.{◌≡◌, ◌≤◌, ℕ, List, [], length, map}
 use Rattle.std.specs.FinMap as finite
+use Rattle.edge_traits.specs.Faults.{Rose}
 use Rattle.disk_trait.specs.Disk.{DiskView, EachImage}
 use Rattle.idb_schema.specs.Schemas.{SchemaData}
 use Rattle.idb_desk.specs.Steps.{DeskRun}
 use Rattle.desk_facts.specs.Databases.{AreOpenable}
 use Rattle.item_changes.specs.Items.{Items}
-use Rattle.log_history.specs.Batching.{Commit}
-use Rattle.log_history.specs.Kept.{End}
+use Rattle.log_history.specs.Batching.{Commit, batched}
+use Rattle.log_history.specs.Kept.{End, FailedFlush}
 use Rattle.tx_book.specs.Follows.{IsFoundKept}
 use Rattle.report_lines.specs.declared.reports.Has.{Has}
 use Rattle.report_lines.specs.declared.reports.Report.{Report}
+use Rattle.report_lines.specs.declared.reports.ReportEnd.TheVariants as end
 use Rattle.script_statements.specs.declared.script.ScriptSession.{ScriptSession}
 use Rattle.legal_sessions.specs.Histories.{ShowsItems}
-use Rattle.legal_sessions.specs.Legal.{has_of, EndsSo, IsLegalReport}
+use Rattle.legal_sessions.specs.Legal.{has_of, EndsSo, report_end, IsLegalReport}
 use Rattle.session_states.specs.Sessions.{IsAtEnd}
 use Rattle.office_moves.specs.Fitting.{AreFew}
 use Rattle.office_moves.specs.Scenes.{DoneNow, IsOpening}
@@ -35,11 +39,15 @@ pub record BeginsOn (databases : Items) (schemas : List SchemaData) (lines : Lis
   pub opened : IsOpening done.opening
   pub lines_are : lines ≡ map has_of (finite.entries done.opening)
 
+abbrev pub HadCause : List Commit → End → Type 0
+HadCause commits log_end = log_end ≡ FailedFlush → 1 ≤ length (batched commits).waiting
+
 -- nobody has anything left to do, and the log was ended
 pub record RanTo (session : ScriptSession) (r : DeskRun) (seats : List Seat) (done : DoneNow) (items : Items) (log_end : End) : Type 0 where
   pub driving : IsDriving session r seats done items
   pub at_end : IsAtEnd (session_seen r seats done items)
   pub ends : EndsSo session.drop_end done.doubts log_end
+  pub cause : HadCause done.commits log_end
 
 -- the end of its log is that of the report: at the commit in doubt, at the flush, or as the session says
 pub record ReportsOn (session : ScriptSession) (number : ℕ) (opening : Items) (report : Report) (left : DiskView) : Type 0 where
@@ -47,9 +55,11 @@ pub record ReportsOn (session : ScriptSession) (number : ℕ) (opening : Items) 
   pub log_end : End
   pub closing : Items
   pub legal : IsLegalReport session number opening report commits log_end closing
+  pub cause : HadCause commits log_end
   pub images : EachImage left (IsFoundKept opening commits log_end)
 
-pub record StopsOn (opening : Items) (left : DiskView) : Type 0 where
+pub record StopsOn (opening : Items) (old left : DiskView) : Type 0 where
   pub commits : List Commit
   pub log_end : End
+  pub fault : report_end log_end ≡ end.Fault → Rose old.faults left.faults
   pub images : EachImage left (IsFoundKept opening commits log_end)

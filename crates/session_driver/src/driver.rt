@@ -274,7 +274,7 @@ pub fn run_session<T: Tables, D: Disk, G: Gate>(
     requires within { is_within_limits opened.items ≡ true }
     ensures reports { IfOk result.0 (λ report.
         ReportsOn session number opened.items report (D.shows result.1)) }
-    ensures stops { OnErr result.0 (StopsOn opened.items (D.shows result.1)) }
+    ensures stops { OnErr result.0 (StopsOn opened.items (D.shows (disk_of opened.log)) (D.shows result.1)) }
     ensures fault { IfOk result.0 (λ report. report.end ≡ end.Fault
         → Rose (D.shows (disk_of opened.log)).faults (D.shows result.1).faults) }
     ensures count { (D.shows (disk_of opened.log)).faults ≤ (D.shows result.1).faults }

@@ -10,7 +10,7 @@ ghost use Rattle.indexed_records.specs.Contents.{IsRecordAt, IsGapOf, rows_in_in
 use super::IndexedRecords;
 use crate::clashing::clashes_any;
 use crate::copying::{copied_records, copied_tables};
-use crate::emptying::Emptied;
+use crate::emptying::{Emptied, boxed};
 use crate::extracting::rows_in_each;
 use crate::growing::{add_to_each, complete, make_room, remove_from_each, replace_in_each};
 use crate::keyed::{put_record, replace_record, take_record};
@@ -137,11 +137,15 @@ impl<T: Tables> IndexedRecords<T> {
         ensures row_spare { IfOk result (λ e. self.old.row_spare ≤ e.row_spare) }
         ensures unchanged { OnErr result (self.new ≡ self.old) }
     {
+        let empty = Box::new(self.alloc, T::records(self.alloc))?;
         let mut tables = Vec::new(self.alloc);
         complete(self.alloc, &self.info.indexes, &mut tables)?;
         complete(self.alloc, &self.info.indexes, &mut self.tables)?;
         Ok(Emptied {
-            records: mem::replace(&mut self.records, T::records(self.alloc)),
+            records: boxed(
+                empty,
+                mem::replace(&mut self.records, T::records(self.alloc)),
+            ),
             tables: mem::replace(&mut self.tables, tables),
             row_spare: mem::replace(&mut self.row_spare, 0),
         })
@@ -161,7 +165,7 @@ impl<T: Tables> IndexedRecords<T> {
             tables,
             row_spare,
         } = emptied;
-        self.records = records;
+        self.records = Box::into_inner(records);
         self.tables = tables;
         self.row_spare = row_spare;
     }

@@ -17,4 +17,4 @@ returns-in-Ok-ran-clause-runs g c =
 
 pub returns-in-Err-ran-clause-stops : goal.returns-in-Err-ran-clause-stops
 returns-in-Err-ran-clause-stops g c =
-    inr (stopped_in (g.D.Disk.shows c.args.disk) (g.D.Disk.shows c.run_session-ran.result.1) c.in-Ok.opened.items c.in-Ok.ensures.items (rw c.in-Err-ran.is at c.run_session-ran.ensures.stops))
+    inr (stopped_in (g.D.Disk.shows c.args.disk) _ (g.D.Disk.shows c.run_session-ran.result.1) c.in-Ok.opened.items c.in-Ok.ensures.items c.in-Ok.ensures.count (rw c.in-Err-ran.is at c.run_session-ran.ensures.stops))

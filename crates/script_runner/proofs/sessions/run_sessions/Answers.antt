@@ -1,7 +1,7 @@
 use Rattle.std.proofs.Common.{◌∙◌, List, refl, ap, subst, eq-eqb, inl, arith}
 use Rattle.script_statements.specs.declared.script.ScriptSession.{ScriptSession}
 use Rattle.script_runner.specs.Running.{RanSoFar}
-use Rattle.script_runner.proofs.Running.{none_ran, stands_still, ran_more, have_stopped, rose_since, same_Err}
+use Rattle.script_runner.proofs.Running.{none_ran, stands_still, stands_faulted, ran_more, have_stopped, rose_since, same_Err}
 use Rattle.script_runner.proofs.sessions.run_sessions.Goals as goal
 
 pub loop-session-init : goal.loop-session-init
@@ -15,7 +15,7 @@ loop-session-init g c = record {
 pub returns-in-Err-clause-stops : goal.returns-in-Err-clause-stops
 returns-in-Err-clause-stops g c =
     let l = c.loop-session in (
-      stands_still _ _ _ _ _ _ _ l.invariant.ran (g.D.Disk.shows c.restart.new.disk) c.restart.ensures.images c.restart.ensures.cause.never_falls,
+      stands_faulted _ _ _ _ _ _ _ l.invariant.ran (g.D.Disk.shows c.restart.new.disk) c.restart.ensures.images c.restart.ensures.cause.never_falls c.in-Err.ensures.cause.cause,
       rose_since _ _ _ l.invariant.disk_count c.in-Err.ensures.cause.cause,
     )
 

@@ -1,8 +1,8 @@
-use Rattle.std.proofs.Common.{◌≡◌, ap, subst, sym, ◌∙◌}
+use Rattle.std.proofs.Common.{◌≡◌, refl, ap, subst, sym, ◌∙◌}
 use Rattle.session_books.specs.States.{SessionBookState}
 use Rattle.office_moves.specs.Scenes.{done_of_book}
 use Rattle.session_driver.specs.Reporting.{report_told}
-use Rattle.session_driver.proofs.Ends.{reports_on, stops_on, fault_ends}
+use Rattle.session_driver.proofs.Ends.{reports_on, risen, stops_on, fault_ends}
 use Rattle.session_driver.proofs.driver.run_session.Goals as goal
 
 pub returns-in-Ok-told-clause-reports : goal.returns-in-Ok-told-clause-reports
@@ -21,11 +21,13 @@ returns-in-Ok-told-clause-reports g c =
 pub returns-in-Err-told-clause-stops : goal.returns-in-Err-told-clause-stops
 returns-in-Err-told-clause-stops g c =
     let book = c.open_and_run-ran.new.book in
-    stops_on (done_of_book book) book.end (g.D.Disk.shows c.into_parts-disk.result.0) c.args.opened.items
-    (c.open_and_run-ran.ensures.goes.opening ∙ ap (λ (b : SessionBookState g.row.D.Denot). b.opening) c.new-book.ensures.book) c.into_parts-disk.ensures.images
+    stops_on (done_of_book book) book.end _ (g.D.Disk.shows c.into_parts-disk.result.0) c.args.opened.items
+    (c.open_and_run-ran.ensures.goes.opening ∙ ap (λ (b : SessionBookState g.row.D.Denot). b.opening) c.new-book.ensures.book)
+    (risen (g.D.Disk.shows) _ _ book c.into_parts-disk.result.0 c.new-book.ensures.book refl c.open_and_run-ran.ensures.goes c.into_parts-disk.ensures.disk) c.into_parts-disk.ensures.images
 
 pub returns-in-Err-clause-stops : goal.returns-in-Err-clause-stops
 returns-in-Err-clause-stops g c =
     let book = c.open_and_run-ran.new.book in
-    stops_on (done_of_book book) book.end (g.D.Disk.shows c.into_parts-disk.result.0) c.args.opened.items
-    (c.open_and_run-ran.ensures.goes.opening ∙ ap (λ (b : SessionBookState g.row.D.Denot). b.opening) c.new-book.ensures.book) c.into_parts-disk.ensures.images
+    stops_on (done_of_book book) book.end _ (g.D.Disk.shows c.into_parts-disk.result.0) c.args.opened.items
+    (c.open_and_run-ran.ensures.goes.opening ∙ ap (λ (b : SessionBookState g.row.D.Denot). b.opening) c.new-book.ensures.book)
+    (risen (g.D.Disk.shows) _ _ book c.into_parts-disk.result.0 c.new-book.ensures.book refl c.open_and_run-ran.ensures.goes c.into_parts-disk.ensures.disk) c.into_parts-disk.ensures.images
