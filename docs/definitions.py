@@ -49,21 +49,60 @@ def modules(crate):
     return [it[:-5] for it in names if it.endswith(".antt") and it != "Lib.antt"]
 
 
+USE = re.compile(r"ghost use Rattle\.(\w+)\.specs\.(\w+)(?:\.\{([^}]*)\}|\.(\w+)| as (\w+))?;")
+
+
+def imports(text):
+    """Where the words of a file's clauses come from: each word, or each name of a module, with its crate and module."""
+    words, names = {}, {}
+    for crate, module, listed, word, name in USE.findall(text):
+        if name:
+            names.setdefault(name, set()).add((crate, module))
+        for it in (listed or word).split(","):
+            if it.strip():
+                words.setdefault(it.split()[-1], set()).add((crate, module, it.split()[0]))
+    return words, names
+
+
+def clauses(text):
+    """The public clauses of a file: those of public functions, of the methods of public traits, and what goes on over lines in a type."""
+    is_public = is_trait = False
+    depth, clause = 0, ""
+    for line in text.split("\n"):
+        if not clause:
+            if line.startswith("}"):
+                is_trait = False
+            if re.match(r"\s*pub (fn|struct|enum|trait)\b", line):
+                is_public = True
+                is_trait = is_trait or line.startswith("pub trait")
+            elif re.match(r"\s*(fn|pub\(crate\) fn|struct|enum|trait)\b", line):
+                is_public = is_trait
+            if is_public and re.match(r"\s*[→×]", line):
+                yield line
+            if not (is_public and re.match(r"\s*(ensures|requires)\b", line)):
+                continue
+        clause += line + "\n"
+        depth += line.count("{") - line.count("}")
+        if depth <= 0:
+            yield clause
+            depth, clause = 0, ""
+
+
 def cited():
-    """The words that the public clauses of all crates cite."""
-    words = set()
+    """The words that the public clauses of all crates cite, each with its crate and module; and all names in these clauses."""
+    found, spelled = set(), set()
     for folder, _, names in os.walk(f"{TOP}/crates"):
         for name in names:
             if "/src" in folder and "/out" not in folder and name.endswith(".rt") and not name.endswith("tests.rt"):
-                is_public = False
-                for line in lines_of(f"{folder}/{name}"):
-                    if re.match(r"\s*pub (fn|struct|enum|trait)\b", line):
-                        is_public = True
-                    elif re.match(r"\s*(fn|pub\(crate\) fn|struct|enum|trait)\b", line):
-                        is_public = False
-                    if is_public and re.match(r"\s*(ensures|requires|→|×|\()", line):
-                        words |= set(re.findall(r"[A-Za-z][A-Za-z0-9_]*", line))
-    return words
+                text = "\n".join(lines_of(f"{folder}/{name}"))
+                words, modules_named = imports(text)
+                for clause in clauses(text):
+                    for before, word in re.findall(r"(?:\b(\w+)\.)?([A-Za-z][A-Za-z0-9_]*)", clause):
+                        found |= {(*place, word) for place in modules_named.get(before, ())}
+                        found |= words.get(word, set())
+                        spelled.add(word)
+                    found |= set(re.findall(r"Rattle\.(\w+)\.specs\.(\w+)\.(\w+)", clause))
+    return found, spelled
 
 
 def read(path):
@@ -101,20 +140,22 @@ def sentence(text):
 
 
 def page():
-    out, missing, uses = [HEAD], [], cited()
+    out, missing = [HEAD], []
+    uses, names_said = cited()
     for crate in crates():
         rows = []
         for name in modules(crate):
-            _, listed, comments = read(f"{TOP}/crates/{crate}/specs/{name}.antt")
+            prose, listed, comments = read(f"{TOP}/crates/{crate}/specs/{name}.antt")
             named = set()
             for words, meaning in listed:
                 named |= set(re.findall(r"[A-Za-z][A-Za-z0-9_]*", words))
                 spelled = ", ".join(f"`{it.split()[0]}`" for it in words.split(",") if it.strip())
                 rows.append(f"| {spelled} | `{name}` | {sentence(meaning)} |")
             for word, comment in comments.items():
-                if word in uses and word not in named:
-                    rows.append(f"| `{word}` | `{name}` | {sentence(comment)} |")
-                    if not comment:
+                # (a word is listed as well where a clause has a name that is spelled so)
+                if word not in named and ((crate, name, word) in uses or word in names_said):
+                    rows.append(f"| `{word}` | `{name}` | {sentence(comment or prose)} |")
+                    if not comment and (crate, name, word) in uses:
                         missing.append(f"crates/{crate}/specs/{name}.antt: `{word}` is cited by a clause, and no comment says what it is")
         if rows:
             out.append(f"\n## `{crate}`\n\n| Word | Module | What it says |\n|---|---|---|\n" + "\n".join(rows) + "\n")
