@@ -1,4 +1,5 @@
-use Rattle.std.proofs.Common.{arith}
+use Rattle.std.proofs.Common.{◌≤◌, ◌∙◌, sym, ap, subst, arith}
+use Rattle.index_tables.specs.Rows.{IndexRows}
 use Rattle.indexed_records.proofs.Matching.{filled_in_step, filled_count, unplaced_in_step, taken_room, taken_rows}
 use Rattle.indexed_records.proofs.dropping.taken_at.Goals as goal
 
@@ -15,7 +16,8 @@ invariant_of-result g c =
       c.in_ok-room.ensures.items,
       omega (arith, c.in_ok-infos.ensures.exact),
       omega (arith, c.in_ok-room.ensures.exact),
-      taken_room c.args.place _ _ _ _ filled (filled_count _ _ _ c.in_ok-complete.ensures.ok) c.requires.place _ c.remove-table.ensures.value,
+      subst (λ (t : IndexRows). c.args.spare ≤ t.spare) (sym c.boxed.ensures)
+          (taken_room c.args.place _ _ _ _ filled (filled_count _ _ _ c.in_ok-complete.ensures.ok) c.requires.place _ c.remove-table.ensures.value),
     )
 
 pub returns-clause-step : goal.returns-clause-step
@@ -25,5 +27,6 @@ returns-clause-step g c records h =
 
 pub returns-clause-rows : goal.returns-clause-rows
 returns-clause-rows g c records h =
-    taken_rows c.args.place _ _ records _ (filled_in_step _ _ _ _ records _ (omega arith) h c.in_ok-complete.ensures.ok) (filled_count _ _ _ c.in_ok-complete.ensures.ok) c.requires.place _ c.remove-table.ensures.value
+    ap (λ (t : IndexRows). t.rows) c.boxed.ensures
+    ∙ taken_rows c.args.place _ _ records _ (filled_in_step _ _ _ _ records _ (omega arith) h c.in_ok-complete.ensures.ok) (filled_count _ _ _ c.in_ok-complete.ensures.ok) c.requires.place _ c.remove-table.ensures.value
     _ c.remove_at-index.ensures.given

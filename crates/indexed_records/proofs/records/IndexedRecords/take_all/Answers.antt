@@ -12,10 +12,10 @@ invariant_of-result g c =
 pub invariant_of-self-2 : goal.invariant_of-self-2
 invariant_of-self-2 g c =
     rw (c.replace.ensures.after, c.replace-2.ensures.after, c.replace-3.ensures.after)
-    (filled_in_step _ _ _ _ _ 0 (omega arith) (nothing_in_step _ _ _ c.new-tables.ensures.items (of_none _ c.records.ensures.empty)) c.in_ok-complete.ensures.ok)
+    (filled_in_step _ _ _ _ _ 0 (omega arith) (nothing_in_step _ _ _ c.new-tables.ensures.items (of_none _ c.records-2.ensures.empty)) c.in_ok-complete.ensures.ok)
 
 pub returns-clause-records : goal.returns-clause-records
-returns-clause-records g c = ap (λ r. records_of (g.T.Records.OrderedTable.entries r)) c.replace.ensures.after ∙ of_none _ c.records.ensures.empty
+returns-clause-records g c = ap (λ r. records_of (g.T.Records.OrderedTable.entries r)) c.replace.ensures.after ∙ of_none _ c.records-2.ensures.empty
 
 pub returns-clause-rows : goal.returns-clause-rows
 returns-clause-rows g c =
