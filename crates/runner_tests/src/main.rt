@@ -3,6 +3,8 @@
 #![tactic(auto)]
 
 #[cfg(test)]
+mod script_runner_disk_tests;
+#[cfg(test)]
 mod script_runner_tests;
 
 fn main() {}

@@ -10,7 +10,7 @@ use std::sync::Wait;
 use std::sync::atomic::{AtomicU64, Ordering};
 use std::thread::Threads;
 
-const SCRIPT: &str = r#"{"sessions":[{"clients":[{"blocks":{
+pub(crate) const SCRIPT: &str = r#"{"sessions":[{"clients":[{"blocks":{
  "main":[{"op":"open","db":"d","upgrade":"up","success":"go"}],
  "up":[{"op":"createObjectStore","store":"s"}],
  "go":[{"op":"transaction","scope":["s"],"mode":"readwrite","body":"b"}],
@@ -30,7 +30,7 @@ const TWO_REPORTS: &str =
 
 // Four commits, of which a strict one has all before it written; the last one is dropped at the session's end. The second session
 // asks for the keys.
-const FOUR_COMMITS: &str = r#"{"sessions":[{"end":"drop","clients":[{"blocks":{
+pub(crate) const FOUR_COMMITS: &str = r#"{"sessions":[{"end":"drop","clients":[{"blocks":{
  "main":[{"op":"open","db":"d","upgrade":"up","success":"go"}],
  "up":[{"op":"createObjectStore","store":"s"}],
  "go":[
@@ -49,18 +49,18 @@ const FOUR_COMMITS: &str = r#"{"sessions":[{"end":"drop","clients":[{"blocks":{
  "go":[{"op":"transaction","scope":["s"],"mode":"readonly","body":"b"}],
  "b":[{"op":"getAllKeys","store":"s"}]}}]}]}"#;
 
-const FIRST: &str =
+pub(crate) const FIRST: &str =
     "session 1\nopening\nclient 1\nopen 1 upgrade 0 1 tx 1\ntx 1 complete\nopen 1 success 1\ntx 2 create readwrite relaxed\ntx 3 create readwrite relaxed\ntx 4 create readwrite strict\ntx 5 create readwrite relaxed\ntx 2 req 1 success 1\ntx 2 complete\ntx 3 req 1 success 2\ntx 3 complete\ntx 4 req 1 success 3\ntx 4 complete\ntx 5 req 1 success 4\ntx 5 complete\norder a1.1 e1 s1 f1 e1 t2.1 t3.1 t4.1 t5.1 s2 f2 s3 f3 s4 f4 s5 f5\nfinish 1 2 3 4 5\ncommit 1 2 3 4 5\nend drop\n";
 
-const SECOND: &str =
+pub(crate) const SECOND: &str =
     "session 2\nopening\nhas \"d\" 1\nclient 1\nopen 1 success 1\ntx 1 create readonly relaxed\ntx 1 req 1 success [1,2,3]\ntx 1 complete\norder a1.1 e1 t1.1 s1 f1\nfinish 1\ncommit\nend flush\n";
 
 // The disk failed as the strict commit was written: it is in doubt, and the fourth transaction never starts.
-const COMMIT_IN_DOUBT: &str =
+pub(crate) const COMMIT_IN_DOUBT: &str =
     "session 1\nopening\nclient 1\nopen 1 upgrade 0 1 tx 1\ntx 1 complete\nopen 1 success 1\ntx 2 create readwrite relaxed\ntx 3 create readwrite relaxed\ntx 4 create readwrite strict\ntx 5 create readwrite relaxed\ntx 2 req 1 success 1\ntx 2 complete\ntx 3 req 1 success 2\ntx 3 complete\ntx 4 req 1 success 3\ntx 4 abort UnknownError doubt\ntx 5 req 1 error AbortError\ntx 5 abort AbortError\nclosed 1\norder a1.1 e1 s1 f1 e1 t2.1 t3.1 t4.1 t5.1 s2 f2 s3 f3 s4 z f4 f5 e1\nfinish 1 2 3 4 5\ncommit 1 2 3\nend fault\n";
 
 // The batch with all four commits isn't found.
-const SECOND_WITHOUT_KEYS: &str =
+pub(crate) const SECOND_WITHOUT_KEYS: &str =
     "session 2\nopening\nhas \"d\" 1\nclient 1\nopen 1 success 1\ntx 1 create readonly relaxed\ntx 1 req 1 success []\ntx 1 complete\norder a1.1 e1 t1.1 s1 f1\nfinish 1\ncommit\nend flush\n";
 
 // The disk failed as the upgrade was written.
@@ -107,7 +107,7 @@ impl Gate for CountingGate {
     }
 }
 
-fn words_of(rt: &impl Abort, alloc: Global, texts: &[&str]) -> Vec<Text> {
+pub(crate) fn words_of(rt: &impl Abort, alloc: Global, texts: &[&str]) -> Vec<Text> {
     let mut words = Vec::new(alloc);
     for text in texts {
         assert!(rt; text.len() <= GREATEST_LENGTH);
