@@ -1,11 +1,9 @@
-//! The tests of `indexed_records`, `object_stores`, `store_cursors`, `range_reads`, `store_changes`, `store_requests`: they call
-//! what is public, and stand in a crate of their own so that no change of a test proves those crates anew.
+//! The tests of `indexed_records`, `object_stores`, `store_cursors`, `range_reads`, `store_changes`, `store_requests`: they call what is public, and stand in a crate
+//! of their own so that no change of a test proves those crates anew.
 #![tactic(auto)]
 
 #[cfg(test)]
 mod indexed_records_tests;
-#[cfg(test)]
-mod object_stores_runs_tests;
 #[cfg(test)]
 mod object_stores_tests;
 #[cfg(test)]

@@ -3,7 +3,7 @@ ghost use Rattle.clone_values.specs.View.{tree_of};
 ghost use Rattle.clone_values.specs.declared.path_types.PathSpec.TheVariants.{One};
 ghost use Rattle.object_stores.specs.Storing.{HasKey, in_line};
 
-use clone_values::{Items, Key, PathSpec, Props, Text, Value, is_cloneable, is_int, well_formed};
+use clone_values::{Key, PathSpec, Props, Text, Value, is_cloneable, is_int, well_formed};
 use idb_base::GREATEST_LENGTH;
 use idb_keys::{KeyRange, Over};
 use idb_schema::{IndexInfo, IndexInfos, StoreInfo};
@@ -36,7 +36,7 @@ enum Step {
 }
 
 // ---- stores and values
-pub fn path(rt: &impl Abort, alloc: Global, s: &str) -> KeyPath
+fn path(rt: &impl Abort, alloc: Global, s: &str) -> KeyPath
     ensures { result ≡ One s.now }
 {
     assert!(rt; s.len() <= GREATEST_LENGTH);
@@ -57,7 +57,7 @@ fn by_e(rt: &impl Abort, alloc: Global, unique: bool) -> IndexInfo
 }
 
 /// A store whose keys stand beside the values, with a generator or without.
-pub fn new_store<T: Tables>(rt: &impl Abort, alloc: Global, auto: bool) -> StoreVersion<T> {
+fn new_store<T: Tables>(rt: &impl Abort, alloc: Global, auto: bool) -> StoreVersion<T> {
     let info = StoreInfo {
         name: Text::copy_of(alloc, "s").expect(rt, "memory"),
         path: None,
@@ -68,7 +68,7 @@ pub fn new_store<T: Tables>(rt: &impl Abort, alloc: Global, auto: bool) -> Store
 }
 
 /// The Object with the one property `e`.
-pub fn object(rt: &impl Abort, alloc: Global, e: i64) -> Value {
+fn object(rt: &impl Abort, alloc: Global, e: i64) -> Value {
     let mut props = Props::new(alloc);
     assert!(rt; props.len() < 100);
     props
@@ -82,7 +82,7 @@ pub fn object(rt: &impl Abort, alloc: Global, e: i64) -> Value {
 
 // ---- one call each
 /// The key; `!` where it was refused.
-pub fn push_answer(rt: &impl Abort, text: &mut String, stored: Result<Key, StoreError>) {
+fn push_answer(rt: &impl Abort, text: &mut String, stored: Result<Key, StoreError>) {
     match &stored {
         Ok(Key::Number(n)) => write!(text, "{n} ").expect(rt, "memory"),
         Err(StoreError::Constraint) => push(rt, text, "! "),
@@ -91,7 +91,7 @@ pub fn push_answer(rt: &impl Abort, text: &mut String, stored: Result<Key, Store
 }
 
 /// Stores the value under a number.
-pub fn put<T: Tables>(
+fn put<T: Tables>(
     rt: &impl Abort,
     store: &mut StoreVersion<T>,
     value: Value,
@@ -125,7 +125,7 @@ fn has_key<T: Tables>(
 }
 
 /// Stores a value without a key.
-pub fn put_alone<T: Tables>(
+fn put_alone<T: Tables>(
     rt: &impl Abort,
     alloc: Global,
     store: &mut StoreVersion<T>,
@@ -160,7 +160,7 @@ fn broken(answer: &Result<(), IndexError>) -> Option<i64> {
 }
 
 /// The key that breaks the index, or 0.
-pub fn add_index<T: Tables>(
+fn add_index<T: Tables>(
     rt: &impl Abort,
     alloc: Global,
     store: &mut StoreVersion<T>,
@@ -178,18 +178,18 @@ fn drop_index<T: Tables>(rt: &impl Abort, store: &mut StoreVersion<T>) {
     store.drop_index(0).expect(rt, "memory")
 }
 
-pub fn set_current<T: Tables>(rt: &impl Abort, store: &mut StoreVersion<T>, current: u64) {
+fn set_current<T: Tables>(rt: &impl Abort, store: &mut StoreVersion<T>, current: u64) {
     assert!(rt; store.info().auto && current >= 1 && current <= 9007199254740993);
     store.set_current(current);
 }
 
-pub fn undo<T: Tables>(rt: &impl Abort, store: &mut StoreVersion<T>, mark: Mark) {
+fn undo<T: Tables>(rt: &impl Abort, store: &mut StoreVersion<T>, mark: Mark) {
     assert!(rt; mark.place <= store.mark().place && (store.info().auto || mark.current == 1));
     assert!(rt; mark.current >= 1 && mark.current <= 9007199254740993);
     store.undo_to(mark);
 }
 
-pub fn push(rt: &impl Abort, text: &mut String, s: &str) {
+fn push(rt: &impl Abort, text: &mut String, s: &str) {
     text.push_str(s).expect(rt, "memory")
 }
 
@@ -203,12 +203,7 @@ fn push_row(rt: &impl Abort, text: &mut String, row: Option<(&Key, &Key)>) {
 }
 
 /// The members of the store, or of its first index.
-pub fn push_rows<T: Tables>(
-    rt: &impl Abort,
-    text: &mut String,
-    store: &StoreVersion<T>,
-    over: Over,
-) {
+fn push_rows<T: Tables>(rt: &impl Abort, text: &mut String, store: &StoreVersion<T>, over: Over) {
     for place in 0..store.row_count(over) {
         push_row(rt, text, store.row(over, place));
     }
@@ -265,7 +260,7 @@ fn push_empty<T: Tables>(
     push_answer(rt, text, put_alone(rt, alloc, store, value))
 }
 
-pub fn push_deleted<T: Tables>(
+fn push_deleted<T: Tables>(
     rt: &impl Abort,
     text: &mut String,
     store: &mut StoreVersion<T>,
@@ -283,7 +278,7 @@ pub fn push_deleted<T: Tables>(
     }
 }
 
-pub fn clear<T: Tables>(rt: &impl Abort, store: &mut StoreVersion<T>) {
+fn clear<T: Tables>(rt: &impl Abort, store: &mut StoreVersion<T>) {
     store.clear().expect(rt, "memory")
 }
 
@@ -393,7 +388,7 @@ fn told_of_new<T: Tables>(rt: &impl Abort, alloc: Global, auto: bool, steps: &[S
 
 /// What a new store with a key path answers to these steps.
 fn told_of_path<T: Tables>(rt: &impl Abort, alloc: Global, steps: &[Step]) -> String {
-    let store: StoreVersion<T> = store_of_path(rt, alloc, "e");
+    let store: StoreVersion<T> = store_of_path(rt, alloc);
     answers::<T>(rt, alloc, store, steps)
 }
 
@@ -484,34 +479,6 @@ fn changes_are_undone(rt: HostRuntime) {
     );
 }
 
-const OF_A_RANGE: [Step; 12] = [
-    Step::AddIndex(false),
-    Step::Put(1, 7),
-    Step::Put(2, 6),
-    Step::Put(3, 7),
-    Step::PutNext(5),
-    Step::Mark,
-    Step::SetCurrent(50),
-    Step::Delete(2, 3),
-    Step::PutNext(6),
-    Step::Show,
-    Step::Undo,
-    Step::Show,
-];
-
-/// A range that was deleted since a mark is back with its rows, and the number of the generator too.
-#[test]
-fn a_deleted_range_comes_back(rt: HostRuntime) {
-    let text = told_of_new::<FlatTables>(&rt, rt.alloc(), true, &OF_A_RANGE);
-    assert_eq!(rt;
-        text.as_str(),
-        concat!(
-            "0 1 2 3 4 2 gone 50 1:1 4:4 50:50 | 5:4 6:50 7:1 | 51 / ",
-            "1:1 2:2 3:3 4:4 | 5:4 6:2 7:1 7:3 | 5 / "
-        )
-    );
-}
-
 const OF_NUMBERS: [Step; 9] = [
     Step::PutNext(1),
     Step::Put(8, 1),
@@ -537,10 +504,9 @@ fn numbers_are_given(rt: HostRuntime) {
     );
 }
 
-/// A store whose keys stand in the values at this path, with a generator.
-fn store_of_path<T: Tables>(rt: &impl Abort, alloc: Global, at: &str) -> StoreVersion<T> {
-    assert!(rt; at.len() != 0);
-    let path = path(rt, alloc, at);
+/// A store whose keys stand in the values.
+fn store_of_path<T: Tables>(rt: &impl Abort, alloc: Global) -> StoreVersion<T> {
+    let path = path(rt, alloc, "e");
     let info = StoreInfo {
         name: Text::copy_of(alloc, "s").expect(rt, "memory"),
         path: Some(path),
@@ -569,96 +535,74 @@ fn keys_stand_in_values(rt: HostRuntime) {
     );
 }
 
-// ---- keys at other paths
-fn push_number(rt: &impl Abort, text: &mut String, value: &Value) {
-    match value {
-        Value::Int(n) => write!(text, "{n} ").expect(rt, "memory"),
-        _ => push(rt, text, "? "),
+/// Ten thousand records, whose `e` is so much more than their keys.
+fn put_many<T: Tables>(
+    rt: &impl Abort,
+    alloc: Global,
+    store: &mut StoreVersion<T>,
+    more: i64,
+    add: bool,
+) {
+    for key in 0..10_000i64 {
+        put_one(rt, alloc, store, (key, key.wrapping_add(more)), add);
     }
 }
 
-fn push_items(rt: &impl Abort, text: &mut String, items: &Items) {
-    push(rt, text, "[ ");
-    for place in 0..items.len() {
-        if let Some(item) = items.at(place) {
-            push_number(rt, text, item);
-        }
-    }
-    push(rt, text, "] ")
+fn put_one<T: Tables>(
+    rt: &impl Abort,
+    alloc: Global,
+    store: &mut StoreVersion<T>,
+    (key, e): (i64, i64),
+    add: bool,
+) {
+    let value = object(rt, alloc, e);
+    let _ = put(rt, store, value, key, add);
 }
 
-/// Properties that are numbers.
-fn push_numbers(rt: &impl Abort, text: &mut String, props: &Props) {
-    for place in 0..props.len() {
-        if let Some(prop) = props.at(place) {
-            write!(text, "{}=", prop.name.as_str()).expect(rt, "memory");
-            push_number(rt, text, &prop.value);
-        }
-    }
+/// The store of ten thousand records, to which their first values are back.
+fn ten_thousand<T: Tables>(rt: &impl Abort, alloc: Global) -> StoreVersion<T> {
+    let mut store: StoreVersion<T> = new_store(rt, alloc, false);
+    let _ = add_index(rt, alloc, &mut store, false);
+    put_many(rt, alloc, &mut store, 0, true);
+    store.settle();
+    put_many(rt, alloc, &mut store, 1, false);
+    store.clear().expect(rt, "memory");
+    store.undo_all();
+    store
 }
 
-/// Properties that are Objects of numbers.
-fn push_objects(rt: &impl Abort, text: &mut String, props: &Props) {
-    for place in 0..props.len() {
-        if let Some(prop) = props.at(place) {
-            write!(text, "{}.", prop.name.as_str()).expect(rt, "memory");
-            match &prop.value {
-                Value::Object(inner) => push_numbers(rt, text, inner),
-                _ => push(rt, text, "? "),
-            }
-        }
-    }
-}
-
-/// The number of properties of an Array, and its items; the properties of an Object.
-fn push_content(rt: &impl Abort, text: &mut String, value: &Value) {
-    match value {
-        Value::Array(items, props) => {
-            write!(text, "{} ", props.len()).expect(rt, "memory");
-            push_items(rt, text, items)
-        }
-        Value::Object(props) => push_objects(rt, text, props),
-        _ => push(rt, text, "? "),
+/// The row of the index at this place.
+fn push_row_at<T: Tables>(
+    rt: &impl Abort,
+    text: &mut String,
+    store: &StoreVersion<T>,
+    place: usize,
+) {
+    match store.row(Over::Index(0), place) {
+        Some((Key::Number(key), Key::Number(primary))) => write!(text, "{key}:{primary} ").expect(
+            rt, "memory",
+        ),
+        _ => push(rt, text, "- "),
     }
 }
 
-/// Stores a value without a key, and writes the records and the generator's number.
-fn told_of_value<T: Tables>(rt: &impl Abort, alloc: Global, at: &str, value: Value) -> String {
+/// The first row of the index, the last one, and the one behind it.
+fn push_ends<T: Tables>(rt: &impl Abort, alloc: Global, store: &StoreVersion<T>) -> String {
     let mut text = String::new(alloc);
-    let mut store: StoreVersion<T> = store_of_path(rt, alloc, at);
-    push_answer(rt, &mut text, put_alone(rt, alloc, &mut store, value));
-    for place in 0..store.len() {
-        if let Some((Key::Number(n), value)) = store.record_at(place) {
-            write!(text, "{n}: ").expect(rt, "memory");
-            push_content(rt, &mut text, value);
-        }
+    for place in [0, 9_999, 10_000] {
+        push_row_at(rt, &mut text, store, place);
     }
-    write!(text, "/ {}", store.current()).expect(rt, "memory");
     text
 }
 
-/// The Array 7, 8, 9.
-fn three_items(rt: &impl Abort, alloc: Global) -> Value {
-    let mut items = Items::new(alloc);
-    for n in [7i64, 8, 9] {
-        assert!(rt; items.len() < 100);
-        items.push(Value::Int(n)).expect(rt, "memory");
-    }
-    Value::Array(items, Props::new(alloc))
+fn told_of_ten_thousand<T: Tables>(rt: &impl Abort, alloc: Global) -> String {
+    let store: StoreVersion<T> = ten_thousand(rt, alloc);
+    push_ends(rt, alloc, &store)
 }
 
-/// The length of an Array is its key at the path `length`, and the generator notes it; the Array is stored as it is.
+/// Ten thousand records come, get another value, go, and are back.
 #[test]
-fn a_length_is_a_key(rt: HostRuntime) {
-    let value = three_items(&rt, rt.alloc());
-    let text = told_of_value::<FlatTables>(&rt, rt.alloc(), "length", value);
-    assert_eq!(rt; text.as_str(), "3 3: 0 [ 7 8 9 ] / 4");
-}
-
-/// At the path `a.b` of an Object without properties the first number is injected, and the Object at `a` with it.
-#[test]
-fn a_number_is_injected_with_its_objects(rt: HostRuntime) {
-    let value = Value::Object(Props::new(rt.alloc()));
-    let text = told_of_value::<FlatTables>(&rt, rt.alloc(), "a.b", value);
-    assert_eq!(rt; text.as_str(), "1 1: a.b=1 / 2");
+fn ten_thousand_come_back(rt: HostRuntime) {
+    let text = told_of_ten_thousand::<FlatTables>(&rt, rt.alloc());
+    assert_eq!(rt; text.as_str(), "0:0 9999:9999 - ");
 }
