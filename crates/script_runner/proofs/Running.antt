@@ -19,7 +19,7 @@ use Rattle.report_lines.specs.declared.reports.ReportEnd.{ReportEnd}
 use Rattle.report_lines.specs.declared.reports.ReportEnd.TheVariants as end
 use Rattle.script_statements.specs.declared.script.ScriptSession.{ScriptSession}
 use Rattle.legal_sessions.specs.Legal.{report_end}
-use Rattle.script_runner.specs.Sessions.{SessionRun, SessionDone, IsLeftBy, GivenAfter, starts_of, starts_after_run, LeavesAfter, BeginsAfter, AreReported, last_run, texts_of, one_if_fault, fault_ends, IsCounted, StopsBetween, EndsBetween, EndsByFault, EndsWithin, IsCutOff}
+use Rattle.script_runner.specs.Sessions.{SessionRun, SessionDone, IsLeftBy, GivenAfter, starts_of, starts_after_run, LeavesAfter, BeginsAfter, AreReported, last_run, texts_of, one_if_fault, fault_ends, IsCounted, EndsBetween, EndsByFault, EndsWithin, IsCutOff}
 use Rattle.script_runner.specs.Running.{IsOpenedOn, IsUnopened, RanOn, StopsIn, StopsBy, EndsBy, RanSoFar}
 use Rattle.script_runner.specs.Stops.{stop_of_recovery}
 use Rattle.script_runner.specs.declared.stops.Stop.{Stop}
@@ -173,7 +173,7 @@ module _ (entry now : DiskView) (all rest : List ScriptSession) (held held_now :
   pub stands_faulted : (left : DiskView) → NoNewImage now left → now.faults ≤ left.faults → Rose now.faults left.faults → EndsByFault entry left all held held_now
   stands_faulted left none_new more rose =
       let ends = stands_still left none_new more in
-      (ends.0, (ends.1, (counted_risen entry.faults (fault_ends ran.done) now.faults left.faults ran.counted rose, ends.2)))
+      (ends.0, ends.1, counted_risen entry.faults (fault_ends ran.done) now.faults left.faults ran.counted rose, ends.2)
 
 module _ (entry now mid left : DiskView) (all : List ScriptSession) (session : ScriptSession) (rest : List ScriptSession) (held held_now held_then : Option (List ℕ)) (number next : ℕ)
     (ran : RanSoFar entry now all (session ∷ rest) held held_now number) (one : next ≡ number + 1)
@@ -278,7 +278,7 @@ module _ (entry now mid left : DiskView) (all : List ScriptSession) (session : S
       by_fault : (ends : EndsBetween entry left all held held_then) → ends.0 ≡ ran.done → EndsByFault entry left all held held_then
       by_fault ends is =
           let risen = counted_risen entry.faults (fault_ends ran.done) now.faults left.faults ran.counted (rose_since now.faults mid.faults left.faults so_far stopped.1) in
-          (ends.0, (ends.1, (subst (λ (done : List SessionDone). IsCounted entry.faults (fault_ends done + 1) left.faults) (sym is) risen, ends.2)))
+          (ends.0, ends.1, subst (λ (done : List SessionDone). IsCounted entry.faults (fault_ends done + 1) left.faults) (sym is) risen, ends.2)
   have_stopped (stop.Damaged area place) stopped same tells since = (
     between stopped.0 (same (λ e. absurd cc)),
     omega (arith, ap length ran.split, length-append ran.front (session ∷ rest)),
