@@ -171,6 +171,7 @@ module _ (entry now : DiskView) (all rest : List ScriptSession) (held held_now :
   )
 
   pub stands_faulted : (left : DiskView) → NoNewImage now left → now.faults ≤ left.faults → Rose now.faults left.faults → EndsByFault entry left all held held_now
+  unfolding stands_still
   stands_faulted left none_new more rose =
       let ends = stands_still left none_new more in
       (ends.0, ends.1, counted_risen entry.faults (fault_ends ran.done) now.faults left.faults ran.counted rose, ends.2)
@@ -270,6 +271,7 @@ module _ (entry now mid left : DiskView) (all : List ScriptSession) (session : S
 
   pub have_stopped : (why : Stop) → StopsBy ((report : Report) × RanOn mid left next session report × AppendsFront held_now held_then (text_of_report report)) why mid left
       → ((why ≡ stop.WriteFault → ⊥) → held_then ≡ held_now) → is_some mid.reads ≡ is_some entry.reads → entry.faults ≤ mid.faults → EndsBy why entry left all held held_then
+  unfolding between
   have_stopped stop.DiskFault stopped same tells since = (
     by_fault (between stopped.0 (same (λ e. absurd cc))) refl,
     rose_since entry.faults mid.faults left.faults since stopped.1,
