@@ -5,6 +5,7 @@
 --     allowed_so            the desk lets it finish
 --     enters_so             the commits with it apply
 --     stands_so, doubts_so  as the book has it then
+--     stops_standing, stops_in_doubt        where its finish is stopped
 --     kept_so, taken_so     and so are the databases
 --     deletion_runs         a deletion at its end
 --     finished_so           it is noted
@@ -54,6 +55,7 @@ use Rattle.session_txs.specs.Running.{PartState, LeavesItsPart, IsDeletionTrace}
 use Rattle.office_moves.specs.Measures.{beyond_memory}
 use Rattle.office_moves.specs.Scenes.{DoneNow, is_open_end, scene_of, seat_on, LeadsTo, StandsOn, IsAtWork, record_if, with_finish_of, done_with_trace, doubted_with_trace}
 use Rattle.office_moves.specs.Running.{begun_run, outcome_in_doubt, left_items, LeavesSound, EndLeads, DoubtLeads, IsRunSo, IsClosed, FinishedWith, HoldsTx}
+use Rattle.office_moves.specs.Stopping.{TellsOf}
 use Rattle.office_moves.proofs.Laws.{FinishLaw, DoubtLaw, FaultLaws}
 use Rattle.office_moves.proofs.Logging.{LogLaws, finish_logged}
 use Rattle.office_moves.proofs.Standing.{FinishesLaw, AbortedLaw, allowed_finish, finish_can}
@@ -203,6 +205,33 @@ module _ (t : RunningTx) (items : Items) (office : OfficeState) (trace : TxTrace
       (subst (λ (l : Items). LeadsTo (Some t) None (scene_of office notes done items) (scene_of new after (doubted_with_trace trace done) l)) (sym left_is)
       (subst (λ (d : DoneNow). LeadsTo (Some t) None (scene_of office notes done items) (scene_of new after d items)) same
       (ends.goes t trace.deltas done items is (r.in_doubt (did commit)))))
+
+  -- where its finish is stopped
+  told_so : (commits : List Commit) (b : Bool) → is_commit trace ≡ b → commits_with commits trace ≡ commits ++ commits_at office.run.order (records_logged (entry ∷ []))
+  told_so commits true commit = ap (λ w. if w then commits ++ commit_of trace ∷ [] else commits) commit ∙ ap (λ cs. commits ++ cs) (sym (logged_so commit))
+  told_so commits false commit =
+      ap (λ w. if w then commits ++ commit_of trace ∷ [] else commits) commit ∙ sym (append-nil commits)
+      ∙ ap (λ b. commits ++ commits_at office.run.order (map record_of_entry (if b then entry ∷ [] else []))) (sym commit ∙ r.commit)
+
+  pub stops_standing : (done last : DoneNow) → last ≡ done_with_trace trace done → TellsOf t items office done last
+  stops_standing done last is = record {
+    changes = trace.deltas;
+    kept = kept;
+    outcome = trace.outcome;
+    ran = r.ran;
+    commits = ap (λ (d : DoneNow). d.commits) is ∙ told_so done.commits (is_commit trace) refl;
+    doubts = ap (λ (d : DoneNow). d.doubts) is ∙ sym (append-nil done.doubts) ∙ ap (λ b. done.doubts ++ commits_at office.run.order (map record_of_entry (if b then entry ∷ [] else []))) (sym r.sure);
+  }
+
+  pub stops_in_doubt : (done last : DoneNow) → is_commit trace ≡ true → done.doubts ≡ [] → last ≡ doubted_with_trace trace done → TellsOf t items office done last
+  stops_in_doubt done last commit none is = record {
+    changes = trace.deltas;
+    kept = None;
+    outcome = outcome_in_doubt;
+    ran = r.in_doubt (did commit);
+    commits = ap (λ (d : DoneNow). d.commits) is ∙ sym (append-nil done.commits);
+    doubts = ap (λ (d : DoneNow). d.doubts) is ∙ sym one_commit ∙ ap (λ cs. cs ++ commits_at office.run.order (record { number = t.number; deltas = trace.deltas } ∷ [])) (sym none);
+  }
 
 -- ---- its part
 module _ (t : RunningTx) (items : Items) (office : OfficeState) (rest : Items) (trace : TxTrace) (kept : Option SchemaData) (left : PartState) (c : IsClosed t items office rest trace kept left) where

@@ -8,3 +8,4 @@ pub mod Turning
 pub mod AtEnd
 pub mod Unstarted
 pub mod Served
+pub mod Telling

@@ -2,6 +2,7 @@ pub mod Measures
 pub mod Scenes
 pub mod Serving
 pub mod Running
+pub mod Stopping
 pub mod Moving
 pub use Rattle.session_limits.specs.Fitting
 pub use Rattle.session_limits.specs.Showing

@@ -1,5 +1,5 @@
 // A transaction finishes without starting: its body aborted it, or the host is faulted.
-ghost use Rattle.std.specs.Prelude.{◌≡◌, false, true, is_some, Some, None, IfOk, IfSome, OnOk};
+ghost use Rattle.std.specs.Prelude.{◌≡◌, false, true, is_some, Some, None, IfOk, IfSome, OnOk, OnErr};
 ghost use Rattle.serial_order.specs.FinishEntries.{TxBody};
 ghost use Rattle.script_handlers.specs.Handling.{Script};
 ghost use Rattle.client_machine.specs.ClientSteps.{may_begin};
@@ -7,6 +7,7 @@ ghost use Rattle.client_parts.specs.Holding.{begun_seen};
 ghost use Rattle.tx_book.specs.Entries.{has_committed};
 ghost use Rattle.office_moves.specs.Running.{IsDropped, EndsBody, DropLeads, FinishedWith, BookGoesOn};
 ghost use Rattle.office_moves.specs.Scenes.{done_of_book, is_open_end, IsAtWork, scene_of, LeadsTo};
+ghost use Rattle.office_moves.specs.Stopping.{TellsNoMore};
 ghost use Rattle.item_changes.specs.Items.{Items};
 
 use crate::entering::note;
@@ -92,6 +93,7 @@ pub(crate) fn drop_tx<T: Tables, D: Disk>(
         (scene_of office.old notes.old (done_of_book book.old) items)
         (scene_of office.new notes.new (done_of_book book.new) items)) }
     ensures finishes { OnOk result (FinishedWith (done_of_book book.old) number (done_of_book book.new)) }
+    ensures stops { OnErr result (TellsNoMore (done_of_book book.old) (done_of_book book.new)) }
     ensures open { is_open_end book.old.end ≡ true → is_open_end book.new.end ≡ true }
     ensures goes { BookGoesOn D.shows book.old book.new }
 {

@@ -1,5 +1,5 @@
 // A transaction that ends is entered in the book.
-ghost use Rattle.std.specs.Prelude.{◌≡◌, ◌++◌, ◌∷◌, [], ◌<◌, true, false, length, IfOk, OnOk};
+ghost use Rattle.std.specs.Prelude.{◌≡◌, ◌++◌, ◌∷◌, [], ◌<◌, true, false, length, IfOk, OnOk, OnErr};
 ghost use Rattle.idb_desk.specs.Durabilities.{durability_drawn};
 ghost use Rattle.log_history.specs.Batching.{commit_of};
 ghost use Rattle.log_history.specs.Kept.{Dropped};
@@ -46,6 +46,7 @@ pub(crate) fn enter<D: Disk, T: Tables>(
     ensures doubted { IfOk result (λ stands. stands ≡ false
         → done_of_book book.new ≡ doubted_with_trace trace.now (done_of_book book.old)) }
     ensures few { OnOk result (length book.new.finished < beyond_memory) }
+    ensures unchanged { OnErr result (book.new ≡ book.old) }
     ensures open { is_open_end book.new.end ≡ true }
     ensures goes { BookGoesOn D.shows book.old book.new }
 {
@@ -71,6 +72,7 @@ pub(crate) fn note<D: Disk, T: Tables>(
     ensures noted { OnOk result
         (done_of_book book.new ≡ with_number trace.now.number (done_of_book book.old)) }
     ensures few { OnOk result (length book.new.finished < beyond_memory) }
+    ensures unchanged { OnErr result (book.new ≡ book.old) }
     ensures open { is_open_end book.old.end ≡ true → is_open_end book.new.end ≡ true }
     ensures goes { BookGoesOn D.shows book.old book.new }
 {

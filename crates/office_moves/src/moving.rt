@@ -1,10 +1,11 @@
 // A client makes a move.
-ghost use Rattle.std.specs.Prelude.{◌≡◌, ◌<◌, ◌+◌, true, Some, None, OnOk};
+ghost use Rattle.std.specs.Prelude.{◌≡◌, ◌<◌, ◌+◌, true, Some, None, OnOk, OnErr};
 ghost use Rattle.log_history.specs.Kept.{Dropped};
 ghost use Rattle.serial_order.specs.FinishEntries.{Scripted};
 ghost use Rattle.office_moves.specs.Measures.{left_to, room_left};
 ghost use Rattle.office_moves.specs.Moving.{IsMoveOf};
 ghost use Rattle.office_moves.specs.Running.{begun_run, FinishedWith, HoldsBegun, IsDue, BookGoesOn};
+ghost use Rattle.office_moves.specs.Stopping.{StopsTelling};
 ghost use Rattle.office_moves.specs.Scenes.{done_of_book, is_open_end, scene_of, LeadsTo, StandsOn};
 
 use crate::dropping::drop_tx;
@@ -42,6 +43,8 @@ fn run_scripted<T: Tables, D: Disk, G: Gate>(
         (scene_of office.old notes.old (done_of_book book.old) databases.old)
         (scene_of office.new notes.new (done_of_book book.new) databases.new)) }
     ensures finishes { OnOk result (FinishedWith (done_of_book book.old) number (done_of_book book.new)) }
+    ensures stops { OnErr result (StopsTelling (Some (begun_run number (Scripted begun.body)))
+        (scene_of office.old notes.old (done_of_book book.old) databases.old) (done_of_book book.new)) }
     ensures open { OnOk result (is_open_end book.new.end ≡ true) }
     ensures goes { BookGoesOn D.shows book.old book.new }
 {
@@ -68,6 +71,8 @@ fn run_tx<T: Tables, D: Disk, G: Gate>(
         (scene_of office.old notes.old (done_of_book book.old) databases.old)
         (scene_of office.new notes.new (done_of_book book.new) databases.new)) }
     ensures finishes { OnOk result (FinishedWith (done_of_book book.old) number (done_of_book book.new)) }
+    ensures stops { OnErr result (StopsTelling None
+        (scene_of office.old notes.old (done_of_book book.old) databases.old) (done_of_book book.new)) }
     ensures open { OnOk result (is_open_end book.new.end ≡ true) }
     ensures goes { BookGoesOn D.shows book.old book.new }
 {
@@ -94,7 +99,7 @@ fn run_tx<T: Tables, D: Disk, G: Gate>(
 
 /// In its office a client runs the transaction of this number whole, which is the least that isn't finished; or where none is named it runs
 /// its oldest task or, where it has none, takes its oldest event. The gate is told of each request before it runs. Only want of
-/// memory stops it.
+/// memory stops it; the book then has no commit more, or that of a transaction that ran whole.
 pub fn make_move<T: Tables, D: Disk, G: Gate>(
     alloc: Global,
     gate: &G,
@@ -112,6 +117,8 @@ pub fn make_move<T: Tables, D: Disk, G: Gate>(
         (scene_of office.new notes.new (done_of_book book.new) databases.new)) }
     ensures less { OnOk result (left_to office.new.client notes.new + room_left book.new.finished
         < left_to office.old.client notes.old + room_left book.old.finished) }
+    ensures stops { OnErr result (StopsTelling None
+        (scene_of office.old notes.old (done_of_book book.old) databases.old) (done_of_book book.new)) }
     ensures open { OnOk result (is_open_end book.new.end ≡ true) }
     ensures goes { BookGoesOn D.shows book.old book.new }
 {

@@ -1,5 +1,5 @@
 // A transaction at its end is entered in the book, and finishes as the book answers.
-ghost use Rattle.std.specs.Prelude.{◌≡◌, true, [], Some, None, OnOk};
+ghost use Rattle.std.specs.Prelude.{◌≡◌, ◌⊎◌, true, [], Some, None, OnOk, OnErr};
 ghost use Rattle.idb_desk.specs.Steps.{desk_run};
 ghost use Rattle.idb_desk.specs.Refusals.{is_allowed};
 ghost use Rattle.idb_desk.specs.declared.steps.DeskStep.TheVariants as step;
@@ -12,6 +12,7 @@ ghost use Rattle.tx_book.specs.Entries.{CanBeLogged};
 ghost use Rattle.session_books.specs.Entering.{is_commit};
 ghost use Rattle.office_moves.specs.Scenes.{done_of_book, is_open_end, scene_of, IsAtWork, LeadsTo, StandsOn};
 ghost use Rattle.office_moves.specs.Running.{begun_run, EndLeads, DoubtLeads, IsClosed, StandsClosed, FinishedWith, HoldsTx, HoldsBegun, BookGoesOn};
+ghost use Rattle.office_moves.specs.Stopping.{TellsNoMore, TellsOf};
 
 use crate::entering::{enter, timed};
 use crate::serving::is_run;
@@ -132,6 +133,10 @@ pub(crate) fn settle_tx<T: Tables, D: Disk>(
         (scene_of office.old notes.old (done_of_book book.old) items)
         (scene_of office.new notes.new (done_of_book book.new) databases.new)) }
     ensures finishes { OnOk result (FinishedWith (done_of_book book.old) number (done_of_book book.new)) }
+    ensures stops { (t : RunningTx) (items : Items) → t.number ≡ number
+        → IsClosed t items office.old databases.old end.trace end.kept end.left
+        → OnErr result (TellsNoMore (done_of_book book.old) (done_of_book book.new)
+        ⊎ TellsOf t items office.old (done_of_book book.old) (done_of_book book.new)) }
     ensures open { OnOk result (is_open_end book.new.end ≡ true) }
     ensures goes { BookGoesOn D.shows book.old book.new }
 {
@@ -173,6 +178,9 @@ pub(crate) fn settle_deletion<T: Tables, D: Disk>(
         (scene_of office.old notes.old (done_of_book book.old) databases.old)
         (scene_of office.new notes.new (done_of_book book.new) databases.new)) }
     ensures finishes { OnOk result (FinishedWith (done_of_book book.old) number (done_of_book book.new)) }
+    ensures stops { OnErr result (TellsNoMore (done_of_book book.old) (done_of_book book.new)
+        ⊎ TellsOf (begun_run number (Deletion name)) databases.old office.old
+        (done_of_book book.old) (done_of_book book.new)) }
     ensures open { OnOk result (is_open_end book.new.end ≡ true) }
     ensures goes { BookGoesOn D.shows book.old book.new }
 {

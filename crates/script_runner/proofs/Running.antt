@@ -9,7 +9,9 @@ use Rattle.disk_trait.specs.declared.area.Area.{Area}
 use Rattle.disk_trait.specs.Areas.{Areas}
 use Rattle.disk_trait.specs.Disk.{DiskView, WhereTold, NoNewImage}
 use Rattle.item_changes.specs.Items.{Items}
+use Rattle.log_history.specs.Batching.{Commit}
 use Rattle.log_history.specs.Found.{found}
+use Rattle.log_history.specs.Kept.{End, with_doubt}
 use Rattle.idb_recovery.specs.declared.error.RecoverError.{RecoverError}
 use Rattle.idb_recovery.specs.declared.error.RecoverError.TheVariants as error
 use Rattle.session_driver.specs.Ending.{ReportsOn, StopsOn}
@@ -18,7 +20,8 @@ use Rattle.report_lines.specs.declared.reports.Report.{Report}
 use Rattle.report_lines.specs.declared.reports.ReportEnd.{ReportEnd}
 use Rattle.report_lines.specs.declared.reports.ReportEnd.TheVariants as end
 use Rattle.script_statements.specs.declared.script.ScriptSession.{ScriptSession}
-use Rattle.legal_sessions.specs.Legal.{report_end}
+use Rattle.legal_sessions.specs.Legal.{report_end, IsLegalReport}
+use Rattle.interrupted_sessions.specs.Interrupted.{HasCommits}
 use Rattle.script_runner.specs.Sessions.{SessionRun, SessionDone, IsLeftBy, GivenAfter, starts_of, starts_after_run, LeavesAfter, BeginsAfter, AreReported, last_run, texts_of, one_if_fault, fault_ends, IsCounted, EndsBetween, EndsByFault, EndsWithin, IsCutOff}
 use Rattle.script_runner.specs.Running.{IsOpenedOn, IsUnopened, RanOn, StopsIn, StopsBy, EndsBy, RanSoFar}
 use Rattle.script_runner.specs.Stops.{stop_of_recovery}
@@ -82,20 +85,21 @@ ran_so old left number session report opening here reports started fault = recor
   images = reports.images;
 }
 
-pub unopened_stops : (old left : DiskView) (e : RecoverError) (why : Stop) → why ≡ stop_of_recovery e → IsUnopened old left → (e ≡ error.DiskFault → Rose old.faults left.faults)
-    → ((area : Area) (place : ℕ) → e ≡ error.Damaged area place → WhereTold old (λ areas. found areas ≡ Err (area, place))) → StopsBy ⊥ why old left
-unopened_stops old left e why is unopened fault damage = subst (λ w. StopsBy ⊥ w old left) (sym is) (by_error e fault damage)
+pub unopened_stops : (session : ScriptSession) (old left : DiskView) (e : RecoverError) (why : Stop) → why ≡ stop_of_recovery e → IsUnopened old left → (e ≡ error.DiskFault → Rose old.faults left.faults)
+    → ((area : Area) (place : ℕ) → e ≡ error.Damaged area place → WhereTold old (λ areas. found areas ≡ Err (area, place))) → StopsBy ⊥ session why old left
+unopened_stops session old left e why is unopened fault damage = subst (λ w. StopsBy ⊥ session w old left) (sym is) (by_error e fault damage)
   where
     by_error : (e : RecoverError) → (e ≡ error.DiskFault → Rose old.faults left.faults) → ((area : Area) (place : ℕ) → e ≡ error.Damaged area place → WhereTold old (λ areas. found areas ≡ Err (area, place)))
-        → StopsBy ⊥ (stop_of_recovery e) old left
+        → StopsBy ⊥ session (stop_of_recovery e) old left
     by_error error.DiskFault fault damage = (unopened, fault refl)
     by_error (error.Damaged area place) fault damage = (unopened, damage area place refl)
     by_error error.NoMemory fault damage = inl unopened
 
-pub stopped_in : (old mid left : DiskView) (opening : Items) → WhereTold old (λ areas. found areas ≡ Ok opening) → old.faults ≤ mid.faults → StopsOn opening mid left → StopsIn old left
-stopped_in old mid left opening here since stops = record {
+pub stopped_in : (session : ScriptSession) (old mid left : DiskView) (opening : Items) → WhereTold old (λ areas. found areas ≡ Ok opening) → old.faults ≤ mid.faults → StopsOn session opening mid left → StopsIn session old left
+stopped_in session old mid left opening here since stops = record {
   run = record { told = old.reads; starts = old.starts; opening = opening; commits = stops.commits; end = stops.log_end };
   opened = record { told = refl; started = refl; found_so = here };
+  made = stops.made;
   fault = λ e. rose_since old.faults mid.faults left.faults since (stops.fault e);
   images = stops.images;
 }
@@ -119,19 +123,19 @@ fault_ends_more (e ∷ done) d = let k = fault_ends_more done d in omega (arith,
 counted_one : (before many then_ mid now : ℕ) (how : ReportEnd) → IsCounted before many then_ → then_ ≤ mid → mid ≤ now → (how ≡ end.Fault → Rose mid now) → IsCounted before (many + one_if_fault how) now
 counted_one before many then_ mid now end.Flush (inl c) le more rose = inl (omega (arith, c, le, more))
 counted_one before many then_ mid now end.Drop (inl c) le more rose = inl (omega (arith, c, le, more))
-counted_one before many then_ mid now end.Fault (inl c) le more rose = by_rose (rose refl)
-  where
-    by_rose : Rose mid now → IsCounted before (many + 1) now
-    by_rose (inl less) = inl (omega (arith, c, le, less))
-    by_rose (inr most) = inr most
+counted_one before many then_ mid now end.Fault (inl c) le more rose = counted_risen before many then_ now (inl c) (rose_since then_ mid now le (rose refl))
 counted_one before many then_ mid now how (inr most) le more rose = inr (omega (arith, most, le, more))
 
 counted_more : (before then_ mid now : ℕ) (done : List SessionDone) (d : SessionDone) → IsCounted before (fault_ends done) then_ → then_ ≤ mid → mid ≤ now → (d.report.end ≡ end.Fault → Rose mid now) → IsCounted before (fault_ends (done ++ d ∷ [])) now
 counted_more before then_ mid now done d c le more rose = subst (λ n. IsCounted before n now) (sym (fault_ends_more done d)) (counted_one before (fault_ends done) then_ mid now d.report.end c le more rose)
 
 -- of a session that ran to its report there is none after all
-pub ran_unreported : (old left : DiskView) (number : ℕ) (session : ScriptSession) (report : Report) → RanOn old left number session report → StopsIn old left
-ran_unreported old left number session report ran = record { run = ran.run; opened = ran.opened; fault = λ e. ran.fault (ran.legal.told.end ∙ e); images = ran.images }
+abbrev pub WholeLaw : Type 0
+WholeLaw = (session : ScriptSession) (number : ℕ) (opening : Items) (report : Report) (commits : List Commit) (log_end : End) (closing : Items) → IsLegalReport session number opening report commits log_end closing
+    → HasCommits session opening commits (with_doubt [] log_end)
+
+pub ran_unreported : WholeLaw → (old left : DiskView) (number : ℕ) (session : ScriptSession) (report : Report) → RanOn old left number session report → StopsIn session old left
+ran_unreported law old left number session report ran = record { run = ran.run; opened = ran.opened; made = inr (law session number ran.run.opening report ran.run.commits ran.run.end ran.closing ran.legal); fault = λ e. ran.fault (ran.legal.told.end ∙ e); images = ran.images }
 
 -- ---- all sessions
 pub none_ran : (entry : DiskView) (all rest : List ScriptSession) (held : Option (List ℕ)) → rest ≡ all → RanSoFar entry entry all rest held held 0
@@ -248,7 +252,7 @@ module _ (entry now mid left : DiskView) (all : List ScriptSession) (session : S
     subst (λ h. Appends held h (texts_of ran.done)) (sym same) ran.appended,
   )
 
-  within : StopsIn mid left → held_then ≡ held_now → EndsWithin entry left all held held_then
+  within : StopsIn session mid left → held_then ≡ held_now → EndsWithin entry left all held held_then
   within stops same = (
     ran.done,
     record {
@@ -259,6 +263,7 @@ module _ (entry now mid left : DiskView) (all : List ScriptSession) (session : S
       reported = ran.reported;
       run = stops.run;
       begun = begun_on entry mid last stops.run given started stops.opened;
+      made = stops.made;
       images = stops.images;
       counted = counted_one entry.faults (fault_ends ran.done) now.faults mid.faults left.faults (report_end stops.run.end) ran.counted so_far more stops.fault;
     },
@@ -269,18 +274,13 @@ module _ (entry now mid left : DiskView) (all : List ScriptSession) (session : S
   damaged_so : (area_place : Area × ℕ) → is_some mid.reads ≡ is_some entry.reads → WhereTold mid (λ areas. found areas ≡ Err area_place) → WhereTold entry (λ areas. found areas ≡ Err area_place)
   damaged_so damage tells here = came_damaged entry mid last damage given tells here
 
-  pub have_stopped : (why : Stop) → StopsBy ((report : Report) × RanOn mid left next session report × AppendsFront held_now held_then (text_of_report report)) why mid left
+  pub have_stopped : (why : Stop) → StopsBy ((report : Report) × RanOn mid left next session report × AppendsFront held_now held_then (text_of_report report)) session why mid left
       → ((why ≡ stop.WriteFault → ⊥) → held_then ≡ held_now) → is_some mid.reads ≡ is_some entry.reads → entry.faults ≤ mid.faults → EndsBy why entry left all held held_then
   unfolding between
-  have_stopped stop.DiskFault stopped same tells since = (
-    by_fault (between stopped.0 (same (λ e. absurd cc))) refl,
-    rose_since entry.faults mid.faults left.faults since stopped.1,
-  )
-    where
-      by_fault : (ends : EndsBetween entry left all held held_then) → ends.0 ≡ ran.done → EndsByFault entry left all held held_then
-      by_fault ends is =
-          let risen = counted_risen entry.faults (fault_ends ran.done) now.faults left.faults ran.counted (rose_since now.faults mid.faults left.faults so_far stopped.1) in
-          (ends.0, ends.1, subst (λ (done : List SessionDone). IsCounted entry.faults (fault_ends done + 1) left.faults) (sym is) risen, ends.2)
+  have_stopped stop.DiskFault stopped same tells since =
+      let ends = between stopped.0 (same (λ e. absurd cc)) in
+      let risen = counted_risen entry.faults (fault_ends ran.done) now.faults left.faults ran.counted (rose_since now.faults mid.faults left.faults so_far stopped.1) in
+      ((ends.0, ends.1, risen, ends.2), rose_since entry.faults mid.faults left.faults since stopped.1)
   have_stopped (stop.Damaged area place) stopped same tells since = (
     between stopped.0 (same (λ e. absurd cc)),
     omega (arith, ap length ran.split, length-append ran.front (session ∷ rest)),

@@ -2,7 +2,7 @@
 --     IsOpenedOn            a session began on what reads give, and its databases are those that are found there
 --     IsUnopened            no session began: the images are as before, or are found as what reads gave
 --     RanOn                 a session ran to this report
---     StopsIn               a session began, and stopped
+--     StopsIn               a session began, and stopped, with the commits of what it had done
 --     StopsBy               why no session was reported; `cut` is what is said of one whose report was written in part
 --     EndsBy                why not all sessions were reported
 --     RanSoFar              the first sessions are reported, and the rest are to run
@@ -19,7 +19,7 @@ use Rattle.report_lines.specs.declared.reports.ReportEnd.TheVariants as end
 use Rattle.script_statements.specs.declared.script.ScriptSession.{ScriptSession}
 use Rattle.legal_sessions.specs.Legal.{report_end, IsLegalReport}
 use Rattle.session_driver.specs.Ending.{HadCause}
-use Rattle.script_runner.specs.Sessions.{SessionRun, SessionDone, IsLeftBy, starts_of, LeavesAfter, AreReported, last_run, texts_of, fault_ends, IsCounted, EndsBetween, EndsByFault, EndsWithin, IsCutOff}
+use Rattle.script_runner.specs.Sessions.{SessionRun, SessionDone, IsLeftBy, HasMade, starts_of, LeavesAfter, AreReported, last_run, texts_of, fault_ends, IsCounted, EndsBetween, EndsByFault, EndsWithin, IsCutOff}
 use Rattle.script_runner.specs.declared.stops.Stop.{Stop}
 use Rattle.script_runner.specs.declared.stops.Stop.TheVariants as stop
 
@@ -42,17 +42,18 @@ pub record RanOn (old left : DiskView) (number : ℕ) (session : ScriptSession) 
   pub fault : report.end ≡ end.Fault → Rose old.faults left.faults
   pub images : EachImage left (IsLeftBy run)
 
-pub record StopsIn (old left : DiskView) : Type 0 where
+pub record StopsIn (session : ScriptSession) (old left : DiskView) : Type 0 where
   pub run : SessionRun
   pub opened : IsOpenedOn old run
+  pub made : HasMade session run
   pub fault : report_end run.end ≡ end.Fault → Rose old.faults left.faults
   pub images : EachImage left (IsLeftBy run)
 
-abbrev pub StopsBy : (cut : Type 0) → Stop → (old left : DiskView) → Type 0
-StopsBy cut stop.DiskFault old left = IsUnopened old left × Rose old.faults left.faults
-StopsBy cut (stop.Damaged area place) old left = IsUnopened old left × WhereTold old (λ areas. found areas ≡ Err (area, place))
-StopsBy cut stop.WriteFault old left = cut
-StopsBy cut stop.NoMemory old left = IsUnopened old left ⊎ StopsIn old left
+abbrev pub StopsBy : (cut : Type 0) → ScriptSession → Stop → (old left : DiskView) → Type 0
+StopsBy cut session stop.DiskFault old left = IsUnopened old left × Rose old.faults left.faults
+StopsBy cut session (stop.Damaged area place) old left = IsUnopened old left × WhereTold old (λ areas. found areas ≡ Err (area, place))
+StopsBy cut session stop.WriteFault old left = cut
+StopsBy cut session stop.NoMemory old left = IsUnopened old left ⊎ StopsIn session old left
 
 -- ---- all sessions
 abbrev pub EndsBy : Stop → (entry left : DiskView) → List ScriptSession → (held held_now : Option (List ℕ)) → Type 0

@@ -3,6 +3,7 @@
 --                           found there, its commits, and how its log ended
 --     SessionDone           one that came to its report, with the databases that it left in memory
 --     IsLeftBy              an image that a session may leave: it is found as so many of its commits as may be kept
+--     HasMade               its commits, with one in doubt, are those of what it had done of its session
 --     GivenAfter            what reads give where a session is opened: as the disk came, or what the session before it may leave
 --     starts_of             how often the disk had been started, where the last session that began was opened, or as it came
 --     starts_after_run      it is started again once behind a session, before the next one is opened
@@ -15,8 +16,8 @@
 --     fault_ends            how many sessions ended by a fault of the disk
 --     IsCounted             a count of faults rose at least by so many, or stands at the end of its 64 bits
 --     StopsBetween          the first ones are reported, and then the program stopped
---     StopsWithin           the first ones are reported, and the next one began, and stopped before its report; a fault by which its log
---                           ended is counted too
+--     StopsWithin           the first ones are reported, and the next one began, and stopped before its report: its commits are those of
+--                           what it had done, and a fault by which its log ended is counted too
 --     EndsBetween, EndsWithin     so, and just the texts of these reports were written
 --     EndsByFault           between two sessions, by a fault of the disk: a fault was counted beside those that sessions ended by
 --     IsCutOff              of the last of the reports a front was written, and all of those before it
@@ -27,7 +28,7 @@ use Rattle.disk_trait.specs.Areas.{Areas}
 use Rattle.disk_trait.specs.Disk.{DiskView, EachImage, NoNewImage, ComesFrom}
 use Rattle.item_changes.specs.Items.{Items}
 use Rattle.log_history.specs.Batching.{Commit}
-use Rattle.log_history.specs.Kept.{End}
+use Rattle.log_history.specs.Kept.{End, with_doubt}
 use Rattle.log_history.specs.Found.{found}
 use Rattle.tx_book.specs.Follows.{IsFoundKept}
 use Rattle.idb_recovery.specs.Recovered.{SameAnswer}
@@ -37,6 +38,7 @@ use Rattle.report_lines.specs.declared.reports.ReportEnd.{ReportEnd}
 use Rattle.report_lines.specs.declared.reports.ReportEnd.TheVariants as end
 use Rattle.script_statements.specs.declared.script.ScriptSession.{ScriptSession}
 use Rattle.legal_sessions.specs.Legal.{report_end, IsLegalReport}
+use Rattle.interrupted_sessions.specs.Interrupted.{WasInterrupted}
 use Rattle.session_driver.specs.Ending.{HadCause}
 
 -- ---- one session
@@ -54,6 +56,9 @@ pub record SessionDone : Type 0 where
 
 abbrev pub IsLeftBy : SessionRun → Areas → Type 0
 IsLeftBy run image = IsFoundKept run.opening run.commits run.end image
+
+abbrev pub HasMade : ScriptSession → SessionRun → Type 0
+HasMade session run = WasInterrupted session run.opening run.commits (with_doubt [] run.end)
 
 -- ---- between two sessions
 abbrev pub GivenAfter : DiskView → Option SessionRun → Option Areas → Type 0
@@ -126,6 +131,7 @@ pub record StopsWithin (entry left : DiskView) (sessions : List ScriptSession) (
   pub reported : AreReported entry None 1 front done
   pub run : SessionRun
   pub begun : BeginsAfter entry (last_run None done) run
+  pub made : HasMade stopped run
   pub images : EachImage left (IsLeftBy run)
   pub counted : IsCounted entry.faults (fault_ends done + one_if_fault (report_end run.end)) left.faults
 

@@ -79,8 +79,8 @@ pub fn run_words<R: Threads + Wait + Sync, S: Source, K: Sink, D: Disk + Send, G
         → (script : Script) × ReadsAs (S.left source.old) (S.left source.new) (Ok script)
         × IsCutOff (D.shows disk) (D.shows result.disk) script.sessions (K.held sink.old) (K.held sink.new) }
 
-    // The first sessions are reported, and no other began; or one more began, and what a stop may leave is what it may leave. Where it
-    // is a fault of the disk, one more was counted than those by which sessions ended.
+    // The first sessions are reported, and no other began; or one more began, and what a stop may leave is what it may leave, with the
+    // commits of what it had done. Where it is a fault of the disk, one more was counted than those by which sessions ended.
     ensures disk_fault { result.status ≡ Status.DiskFault
         → (script : Script) × ReadsAs (S.left source.old) (S.left source.new) (Ok script)
         × EndsByFault (D.shows disk) (D.shows result.disk) script.sessions

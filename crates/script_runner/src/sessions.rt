@@ -16,6 +16,7 @@ use disk_trait::{Disk, Failed};
 use edge_traits::{Gate, Sink};
 use idb_base::NoMemory;
 use idb_recovery::recover;
+use interrupted_sessions::interruption_laws;
 use report_lines::Report;
 use script_statements::{ScriptSession, ScriptSessions};
 use session_driver::run_session;
@@ -58,7 +59,7 @@ fn run_on<D: Disk, G: Gate>(
 ) -> (Result<Report, Stop>, D)
     ensures runs { IfOk result.0 (λ report.
         RanOn (D.shows disk) (D.shows result.1) number session report) }
-    ensures stops { IfErr result.0 (λ stop. StopsBy ⊥ stop (D.shows disk) (D.shows result.1)) }
+    ensures stops { IfErr result.0 (λ stop. StopsBy ⊥ session stop (D.shows disk) (D.shows result.1)) }
     ensures told { is_some (D.shows result.1).reads ≡ is_some (D.shows disk).reads }
     ensures count { (D.shows disk).faults ≤ (D.shows result.1).faults }
 {
@@ -88,13 +89,14 @@ fn report_session<K: Sink, D: Disk, G: Gate>(
     ensures stops { IfErr result.0 (λ stop. StopsBy ((report : Report)
         × RanOn (D.shows disk) (D.shows result.1) number session report
         × AppendsFront (K.held sink.old) (K.held sink.new) (text_of_report report))
-        stop (D.shows disk) (D.shows result.1)) }
+        session stop (D.shows disk) (D.shows result.1)) }
     ensures write_cause { IsErrOf result.0 Stop.WriteFault → Rose (K.faults sink.old) (K.faults sink.new) }
     ensures unwritten { (IsErrOf result.0 Stop.WriteFault → ⊥) → OnErr result.0 (sink.new ≡ sink.old) }
     ensures told { is_some (D.shows result.1).reads ≡ is_some (D.shows disk).reads }
     ensures disk_count { (D.shows disk).faults ≤ (D.shows result.1).faults }
     ensures write_count { K.faults sink.old ≤ K.faults sink.new }
 {
+    interruption_laws();
     let (ran, disk) = run_on(alloc, gate, session, number, disk);
     let report = match ran {
         Ok(report) => report,

@@ -1,6 +1,6 @@
 -- The moves of a driver keep a session under way.
 --     begins_so             at its beginning
---     stands_there, client_moved    where a client stands;  it made a move
+--     scene_at, stands_there, client_moved  where a client stands;  it made a move
 --     client_chosen, least_chosen   what the next move says
 --     chosen_there, least_drawn     the least transaction was drawn, and its client has a place
 --     seat_taken, chosen_within, chosen_seat, chosen_due, seat_sits, client_back, less_left     a seat that is taken out, and put back
@@ -77,7 +77,7 @@ seated_with s new after = record { script = s.script; client = new.client; notes
 abbrev pub office_at : Seat → DeskRun → OfficeState
 office_at s r = record { blocks = (script_of_seat s).blocks; client = s.client; run = r }
 
-scene_at : (session : ScriptSession) (r : DeskRun) (seats : List Seat) (done : DoneNow) (items : Items) (place : ℕ) (s : Seat) → IsDriving session r seats done items → slice_get seats place ≡ Some s
+pub scene_at : (session : ScriptSession) (r : DeskRun) (seats : List Seat) (done : DoneNow) (items : Items) (place : ℕ) (s : Seat) → IsDriving session r seats done items → slice_get seats place ≡ Some s
     → IsSceneAt session (session_seen r seats done items) place (scene_of (office_at s r) s.notes done items)
 scene_at session r seats done items place s drives at = record {
   script = script_of_seat s;

@@ -4,7 +4,7 @@
 --     fault_ends            a report that ends by a fault is of a log that met one
 --     reports_on            what it reports is legal, and each image of the disk is found as so many of its commits as may be kept
 --     risen                 a log that ended by a fault has counted it
---     stops_on              the images alone
+--     stops_on              of one that stopped the images, and what it had done
 use Rattle.std.proofs.Common.{◌≡◌, ◌⊎◌, ◌≤◌, ◌<◌, ℕ, ◌-◌, ◌^◌, Bool, true, false, List, [], ◌∷◌, map, inl, inr, refl, sym, ◌∙◌, ap, subst, arith}
 use Rattle.std.specs.FinMap as finite
 use Rattle.edge_traits.specs.Faults.{Rose}
@@ -21,6 +21,7 @@ use Rattle.script_statements.specs.declared.script.ScriptSession.{ScriptSession}
 use Rattle.legal_sessions.specs.Legal.{has_of, EndsSo, report_end, IsLegalReport}
 use Rattle.session_books.specs.States.{SessionBookState, takes_more}
 use Rattle.session_states.specs.Sessions.{commit_numbers}
+use Rattle.interrupted_sessions.specs.Interrupted.{WasInterrupted}
 use Rattle.office_moves.specs.Running.{BookGoesOn}
 use Rattle.office_moves.specs.Scenes.{DoneNow, is_open_end, met_fault}
 use Rattle.session_driver.specs.declared.seats.Seat.{Seat}
@@ -109,6 +110,6 @@ risen shows fresh begun ran disk is none goes left e =
     subst (λ d. Rose (shows fresh.log.disk).faults (shows d).faults) (sym left)
     (subst (λ (b : SessionBookState _). Rose (shows b.log.disk).faults (shows ran.log.disk).faults) is (goes.rose (ap (λ (b : SessionBookState _). met_fault b.end) is ∙ none) (fault_ends ran.end e)))
 
-pub stops_on : (done : DoneNow) (log_end : End) (old left : DiskView) (opening : Items) → done.opening ≡ opening → (report_end log_end ≡ end.Fault → Rose old.faults left.faults)
-    → EachImage left (IsFoundKept done.opening done.commits log_end) → StopsOn opening old left
-stops_on done log_end old left opening opened fault images = record { commits = done.commits; log_end = log_end; fault = fault; images = subst (λ (is : Items). EachImage left (IsFoundKept is done.commits log_end)) opened images }
+pub stops_on : (session : ScriptSession) (done : DoneNow) (log_end : End) (old left : DiskView) (opening : Items) → done.opening ≡ opening → WasInterrupted session done.opening done.commits (with_doubt [] log_end) → (report_end log_end ≡ end.Fault → Rose old.faults left.faults)
+    → EachImage left (IsFoundKept done.opening done.commits log_end) → StopsOn session opening old left
+stops_on session done log_end old left opening opened made fault images = record { commits = done.commits; log_end = log_end; made = subst (λ (is : Items). WasInterrupted session is done.commits (with_doubt [] log_end)) opened made; fault = fault; images = subst (λ (is : Items). EachImage left (IsFoundKept is done.commits log_end)) opened images }

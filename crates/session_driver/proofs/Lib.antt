@@ -3,3 +3,4 @@ pub mod Listing
 pub mod Lessening
 pub mod Driving
 pub mod Ends
+pub mod Stopping

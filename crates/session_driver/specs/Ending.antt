@@ -3,8 +3,8 @@
 --     HadCause              a last flush that failed had commits to write: some were in no batch that has ended
 --     RanTo                 it was driven to its end, and its log was ended
 --     ReportsOn             a legal report, with which each image of the disk is found as so many of its commits as may be kept
---     StopsOn               a session that stopped: so it is with the commits that its log was told, and a fault by which the log ended was
---                           counted
+--     StopsOn               a session that stopped: so it is with the commits that its log was told, which are those of what it had done, and
+--                           a fault by which the log ended was counted
 use Rattle.std.specs.Prelude.{◌≡◌, ◌≤◌, ℕ, List, [], length, map}
 use Rattle.std.specs.FinMap as finite
 use Rattle.edge_traits.specs.Faults.{Rose}
@@ -14,7 +14,7 @@ use Rattle.idb_desk.specs.Steps.{DeskRun}
 use Rattle.desk_facts.specs.Databases.{AreOpenable}
 use Rattle.item_changes.specs.Items.{Items}
 use Rattle.log_history.specs.Batching.{Commit, batched}
-use Rattle.log_history.specs.Kept.{End, FailedFlush}
+use Rattle.log_history.specs.Kept.{End, FailedFlush, with_doubt}
 use Rattle.tx_book.specs.Follows.{IsFoundKept}
 use Rattle.report_lines.specs.declared.reports.Has.{Has}
 use Rattle.report_lines.specs.declared.reports.Report.{Report}
@@ -23,6 +23,7 @@ use Rattle.script_statements.specs.declared.script.ScriptSession.{ScriptSession}
 use Rattle.legal_sessions.specs.Histories.{ShowsItems}
 use Rattle.legal_sessions.specs.Legal.{has_of, EndsSo, report_end, IsLegalReport}
 use Rattle.session_states.specs.Sessions.{IsAtEnd}
+use Rattle.interrupted_sessions.specs.Interrupted.{WasInterrupted}
 use Rattle.office_moves.specs.Fitting.{AreFew}
 use Rattle.office_moves.specs.Scenes.{DoneNow, IsOpening}
 use Rattle.session_driver.specs.declared.seats.Seat.{Seat}
@@ -58,8 +59,9 @@ pub record ReportsOn (session : ScriptSession) (number : ℕ) (opening : Items) 
   pub cause : HadCause commits log_end
   pub images : EachImage left (IsFoundKept opening commits log_end)
 
-pub record StopsOn (opening : Items) (old left : DiskView) : Type 0 where
+pub record StopsOn (session : ScriptSession) (opening : Items) (old left : DiskView) : Type 0 where
   pub commits : List Commit
   pub log_end : End
+  pub made : WasInterrupted session opening commits (with_doubt [] log_end)
   pub fault : report_end log_end ≡ end.Fault → Rose old.faults left.faults
   pub images : EachImage left (IsFoundKept opening commits log_end)

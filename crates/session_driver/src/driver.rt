@@ -8,10 +8,11 @@ ghost use Rattle.scope_desk.specs.Starts.{may_start};
 ghost use Rattle.scope_desk.specs.declared.unfinished.MayStart.TheVariants.{Go};
 ghost use Rattle.edge_traits.specs.Faults.{Rose};
 ghost use Rattle.gate_log.specs.Log.{disk_of, failed_at};
-ghost use Rattle.log_history.specs.Kept.{Dropped};
+ghost use Rattle.log_history.specs.Kept.{Dropped, with_doubt};
 ghost use Rattle.report_lines.specs.declared.reports.ReportEnd.TheVariants as end;
 ghost use Rattle.legal_sessions.specs.Legal.{has_of, report_end};
 ghost use Rattle.session_states.specs.Sessions.{IsAtEnd};
+ghost use Rattle.interrupted_sessions.specs.Interrupted.{HasCommits, WasInterrupted};
 ghost use Rattle.session_books.specs.States.{HoldsItems};
 ghost use Rattle.office_moves.specs.Running.{BookGoesOn};
 ghost use Rattle.office_moves.specs.Scenes.{DoneNow, done_of_book, is_open_end};
@@ -32,6 +33,7 @@ use idb_databases::Databases;
 use idb_desk::{Desk, desk_laws};
 use idb_recovery::Opened;
 use index_tables::Tables;
+use interrupted_sessions::interruption_laws;
 use office_moves::{Office, fitting_laws, make_move, showing_laws};
 use report_lines::{Opening, Report, ReportEnd};
 use script_statements::ScriptSession;
@@ -71,8 +73,11 @@ fn move_client<T: Tables, D: Disk, G: Gate>(
     ensures less { OnOk result
         (session_left seats.new.items book.new.finished < session_left seats.old.items book.old.finished) }
     ensures open { OnOk result (is_open_end book.new.end ≡ true) }
+    ensures stops { OnErr result (HasCommits of.now.value book.new.opening book.new.commits
+        (with_doubt [] book.new.end)) }
     ensures goes { BookGoesOn D.shows book.old book.new }
 {
+    interruption_laws();
     let seat = seats.remove(place);
     let Seat {
         script,
@@ -138,6 +143,8 @@ fn advance<T: Tables, D: Disk, G: Gate>(
     ensures less { IfOk result (λ r. r.1 ≡ true
         → session_left seats.new.items book.new.finished < session_left seats.old.items book.old.finished) }
     ensures open { OnOk result (is_open_end book.new.end ≡ true) }
+    ensures stops { OnErr result (HasCommits of.now.value book.new.opening book.new.commits
+        (with_doubt [] book.new.end)) }
     ensures goes { BookGoesOn D.shows book.old book.new }
 {
     match next_move(&desk, seats.as_slice()) {
@@ -183,6 +190,8 @@ fn drive<T: Tables, D: Disk, G: Gate>(
     ensures end { IfOk result (λ last.
         IsAtEnd (session_seen last seats.new.items (done_of_book book.new) databases.new)) }
     ensures open { OnOk result (is_open_end book.new.end ≡ true) }
+    ensures stops { OnErr result (HasCommits of.now.value book.new.opening book.new.commits
+        (with_doubt [] book.new.end)) }
     ensures goes { BookGoesOn D.shows book.old book.new }
 {
     let mut desk = desk;
@@ -209,9 +218,12 @@ fn run_to_end<T: Tables, D: Disk, G: Gate>(
         × RanTo session r.desk r.seats.items (done_of_book book.new) items book.new.end) }
     ensures lines { IfOk result (λ r. r.opening ≡ map has_of (finite.entries book.new.opening)) }
     ensures end { IfOk result (λ r. r.end ≡ report_end book.new.end) }
+    ensures stops { OnErr result (WasInterrupted session book.new.opening book.new.commits
+        (with_doubt [] book.new.end)) }
     ensures goes { BookGoesOn D.shows book.old book.new }
 {
     under_way_laws();
+    interruption_laws();
     fitting_laws();
     showing_laws();
     let of = Snapshot::of(&session);
@@ -250,6 +262,8 @@ fn open_and_run<T: Tables, D: Disk, G: Gate>(
         × RanTo session r.desk r.seats.items (done_of_book book.new) items book.new.end) }
     ensures lines { IfOk result (λ r. r.opening ≡ map has_of (finite.entries book.new.opening)) }
     ensures end { IfOk result (λ r. r.end ≡ report_end book.new.end) }
+    ensures stops { OnErr result (WasInterrupted session book.new.opening book.new.commits
+        (with_doubt [] book.new.end)) }
     ensures goes { BookGoesOn D.shows book.old book.new }
 {
     let opening = open_databases(alloc, databases)?;
@@ -261,7 +275,8 @@ fn open_and_run<T: Tables, D: Disk, G: Gate>(
 /// between its turns, and entered in a book over the log. The gate is told of each request before it runs. What the session reports at
 /// its end is a legal report, and each image of the disk is found as so many of its commits as may be kept. Where the disk fails as a
 /// commit is written, that transaction is in doubt and the host is faulted, and where it fails at the last flush the session ends by
-/// that; the disk has counted the fault then. Only want of memory stops a session, as which more than 2^32 - 1 clients count.
+/// that; the disk has counted the fault then. Only want of memory stops a session, as which more than 2^32 - 1 clients count; each
+/// image is then found as so many of the commits that it had made as may be kept.
 pub fn run_session<T: Tables, D: Disk, G: Gate>(
     alloc: Global,
     gate: &G,
@@ -274,7 +289,8 @@ pub fn run_session<T: Tables, D: Disk, G: Gate>(
     requires within { is_within_limits opened.items ≡ true }
     ensures reports { IfOk result.0 (λ report.
         ReportsOn session number opened.items report (D.shows result.1)) }
-    ensures stops { OnErr result.0 (StopsOn opened.items (D.shows (disk_of opened.log)) (D.shows result.1)) }
+    ensures stops { OnErr result.0
+        (StopsOn session opened.items (D.shows (disk_of opened.log)) (D.shows result.1)) }
     ensures fault { IfOk result.0 (λ report. report.end ≡ end.Fault
         → Rose (D.shows (disk_of opened.log)).faults (D.shows result.1).faults) }
     ensures count { (D.shows (disk_of opened.log)).faults ≤ (D.shows result.1).faults }
@@ -282,6 +298,7 @@ pub fn run_session<T: Tables, D: Disk, G: Gate>(
     ensures told { is_some (D.shows result.1).reads ≡ is_some (D.shows (disk_of opened.log)).reads }
 {
     under_way_laws();
+    interruption_laws();
     let (book, databases) = SessionBook::new(alloc, opened);
     let mut book = book;
     let ran = open_and_run(alloc, gate, session, databases, &mut book);

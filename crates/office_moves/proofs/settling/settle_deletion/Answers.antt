@@ -1,4 +1,4 @@
-use Rattle.std.proofs.Common.{◌≡◌, List, Some, None, refl, sym, ap, ◌∙◌, subst, []}
+use Rattle.std.proofs.Common.{◌≡◌, inl, inr, List, Some, None, refl, sym, ap, ◌∙◌, subst, []}
 use Rattle.idb_base.specs.Lists.{IsWithinLimit}
 use Rattle.idb_calls.specs.Deltas.{DeltaTree}
 use Rattle.loggable_changes.specs.Logging.{AreLoggable}
@@ -12,6 +12,9 @@ use Rattle.office_moves.specs.Scenes.{done_of_book}
 use Rattle.office_moves.proofs.Standing.{there_at, works_on}
 use Rattle.office_moves.proofs.Turning.{loggable_so}
 use Rattle.office_moves.proofs.AtEnd.{timed_here, deletion_runs, deletion_left, allowed_so, enters_so, stands_so, doubts_so}
+use Rattle.session_books.specs.States.{SessionBookState}
+use Rattle.office_moves.proofs.AtEnd.{stops_standing, stops_in_doubt}
+use Rattle.office_moves.proofs.Telling.{tells_still}
 use Rattle.office_moves.proofs.settling.settle_deletion.Goals as goal
 
 pub enter-requires-clause-applies : goal.enter-requires-clause-applies
@@ -71,3 +74,44 @@ returns-then-not-stands-clause-leads g c =
     let sound = subst AreSoundDatabases (sym left) (c.part_laws.ensures.sound_without items c.args.name c.stores_are_sound.ensures) in
     doubts_so t items office c.timed-trace.result None runs c.args.notes.now c.doubt_tx.new.notes done (done_of_book c.enter.new.book) c.args.number c.doubt_tx.new.office c.args.databases.now refl
     c.in_ok-doubt_tx.ensures (c.in_ok-stands.ensures.in_doubt c.if-not-stands.true) (ap (with_doubt []) c.requires.runs) (c.in_ok-stands.ensures.doubted c.if-not-stands.true) refl
+
+-- where want of memory stops it
+
+pub returns-in_err-named-clause-stops : goal.returns-in_err-named-clause-stops
+returns-in_err-named-clause-stops g c = inl (tells_still (done_of_book c.args.book.now) (done_of_book c.args.book.now) refl)
+
+pub returns-in_err-trace-clause-stops : goal.returns-in_err-trace-clause-stops
+returns-in_err-trace-clause-stops g c = inl (tells_still (done_of_book c.args.book.now) (done_of_book c.args.book.now) refl)
+
+pub returns-in_err-stands-clause-stops : goal.returns-in_err-stands-clause-stops
+returns-in_err-stands-clause-stops g c = inl (tells_still (done_of_book c.args.book.now) (done_of_book c.enter.new.book) (ap (λ (b : SessionBookState _). done_of_book b) c.in_err-stands.ensures.unchanged))
+
+pub returns-in_err-doubt_tx-clause-stops : goal.returns-in_err-doubt_tx-clause-stops
+returns-in_err-doubt_tx-clause-stops g c =
+    let t = begun_run c.args.number (Deletion c.args.name) in
+    let items = c.args.databases.now in
+    let office = c.args.office.now in
+    let done = done_of_book c.args.book.now in
+    let there = there_at c.showing_laws.ensures.exists (Some t) office c.args.notes.now done items c.args.number c.args.name c.requires.on c.requires.holds in
+    let runs = deletion_runs c.args.number c.args.name c.in_ok-trace.trace c.timed-trace.result office items (subst (λ (n : Name). IsDeletionTrace c.args.number n c.in_ok-trace.trace) c.in_ok-named.ensures c.in_ok-trace.ensures) (timed_here office c.desk.result.now c.timed-trace.result c.in_ok-trace.trace c.desk.ensures c.timed-trace.ensures) there in
+    inr (stops_in_doubt t items office c.timed-trace.result None runs done (done_of_book c.enter.new.book) (c.in_ok-stands.ensures.in_doubt c.if-not-stands.true) (ap (with_doubt []) c.requires.runs) (c.in_ok-stands.ensures.doubted c.if-not-stands.true))
+
+pub returns-in_err-delete_database-clause-stops : goal.returns-in_err-delete_database-clause-stops
+returns-in_err-delete_database-clause-stops g c =
+    let t = begun_run c.args.number (Deletion c.args.name) in
+    let items = c.args.databases.now in
+    let office = c.args.office.now in
+    let done = done_of_book c.args.book.now in
+    let there = there_at c.showing_laws.ensures.exists (Some t) office c.args.notes.now done items c.args.number c.args.name c.requires.on c.requires.holds in
+    let runs = deletion_runs c.args.number c.args.name c.in_ok-trace.trace c.timed-trace.result office items (subst (λ (n : Name). IsDeletionTrace c.args.number n c.in_ok-trace.trace) c.in_ok-named.ensures c.in_ok-trace.ensures) (timed_here office c.desk.result.now c.timed-trace.result c.in_ok-trace.trace c.desk.ensures c.timed-trace.ensures) there in
+    inr (stops_standing t items office c.timed-trace.result None runs done (done_of_book c.enter.new.book) (c.in_ok-stands.ensures.stands c.if-not-stands.false))
+
+pub returns-in_err-finish_tx-clause-stops : goal.returns-in_err-finish_tx-clause-stops
+returns-in_err-finish_tx-clause-stops g c =
+    let t = begun_run c.args.number (Deletion c.args.name) in
+    let items = c.args.databases.now in
+    let office = c.args.office.now in
+    let done = done_of_book c.args.book.now in
+    let there = there_at c.showing_laws.ensures.exists (Some t) office c.args.notes.now done items c.args.number c.args.name c.requires.on c.requires.holds in
+    let runs = deletion_runs c.args.number c.args.name c.in_ok-trace.trace c.timed-trace.result office items (subst (λ (n : Name). IsDeletionTrace c.args.number n c.in_ok-trace.trace) c.in_ok-named.ensures c.in_ok-trace.ensures) (timed_here office c.desk.result.now c.timed-trace.result c.in_ok-trace.trace c.desk.ensures c.timed-trace.ensures) there in
+    inr (stops_standing t items office c.timed-trace.result None runs done (done_of_book c.enter.new.book) (c.in_ok-stands.ensures.stands c.if-not-stands.false))

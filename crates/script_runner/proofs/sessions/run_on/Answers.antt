@@ -8,7 +8,7 @@ run_session-ran-requires-clause-within g c κs within = within_limits c.in-Ok.en
 
 pub returns-in-Err-clause-stops : goal.returns-in-Err-clause-stops
 returns-in-Err-clause-stops g c =
-    unopened_stops (g.D.Disk.shows c.args.disk) (g.D.Disk.shows c.in-Err.disk) c.in-Err.error c.unopened.result c.unopened.ensures c.in-Err.ensures.left c.in-Err.ensures.disk_fault c.in-Err.ensures.damaged
+    unopened_stops c.args.session (g.D.Disk.shows c.args.disk) (g.D.Disk.shows c.in-Err.disk) c.in-Err.error c.unopened.result c.unopened.ensures c.in-Err.ensures.left c.in-Err.ensures.disk_fault c.in-Err.ensures.damaged
 
 pub returns-in-Ok-ran-clause-runs : goal.returns-in-Ok-ran-clause-runs
 returns-in-Ok-ran-clause-runs g c =
@@ -17,4 +17,4 @@ returns-in-Ok-ran-clause-runs g c =
 
 pub returns-in-Err-ran-clause-stops : goal.returns-in-Err-ran-clause-stops
 returns-in-Err-ran-clause-stops g c =
-    inr (stopped_in (g.D.Disk.shows c.args.disk) _ (g.D.Disk.shows c.run_session-ran.result.1) c.in-Ok.opened.items c.in-Ok.ensures.items c.in-Ok.ensures.count (rw c.in-Err-ran.is at c.run_session-ran.ensures.stops))
+    inr (stopped_in c.args.session (g.D.Disk.shows c.args.disk) _ (g.D.Disk.shows c.run_session-ran.result.1) c.in-Ok.opened.items c.in-Ok.ensures.items c.in-Ok.ensures.count (rw c.in-Err-ran.is at c.run_session-ran.ensures.stops))

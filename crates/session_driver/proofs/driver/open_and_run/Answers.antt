@@ -1,4 +1,4 @@
-use Rattle.std.proofs.Common.{◌≡◌, [], subst, sym, ap, map, ◌∙◌}
+use Rattle.std.proofs.Common.{◌≡◌, [], inl, subst, sym, ap, map, ◌∙◌}
 use Rattle.std.specs.FinMap as finite
 use Rattle.item_changes.specs.Items.{Items}
 use Rattle.idb_databases.specs.Items.{AreItems, is_within_limits}
@@ -22,3 +22,6 @@ run_to_end-requires-clause-fresh g c κs within =
       opened = record { items = subst AreItems items o.items; within = ap is_within_limits (sym items) ∙ c.requires.within };
       lines_are = o.lines ∙ ap (λ (is : Items). map has_of (finite.entries is)) items;
     }
+
+pub returns-in_err-opening-clause-stops : goal.returns-in_err-opening-clause-stops
+returns-in_err-opening-clause-stops g c = inl (c.requires.fresh.1, ap (with_doubt []) c.requires.runs)
