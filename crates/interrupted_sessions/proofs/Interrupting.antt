@@ -2,7 +2,7 @@
 --     interrupted_between   without it
 --     interrupted_at_end    with it, once it has run whole
 --     interrupted_whole     so is one that came to its end
-use Rattle.std.proofs.Common.{◌≡◌, ℕ, ◌+◌, ◌<◌, nat_lt, true, false, not, ◌&&◌, Bool, List, [], ◌∷◌, ◌++◌, map, filter, length, slice_get, if◌then◌else◌, Option, Some, None, inl, inr, le-ltb, refl, sym, ◌∙◌, ap, subst, arith}
+use Rattle.std.proofs.Common.{◌≡◌, ℕ, ◌+◌, ◌<◌, nat_lt, true, false, ◌&&◌, Bool, List, [], ◌∷◌, ◌++◌, map, filter, length, slice_get, if◌then◌else◌, Option, Some, None, inl, inr, le-ltb, refl, sym, ◌∙◌, ap, subst, arith}
 use Rattle.std.specs.Prelude.{⊤, ◌==◌, ◌||◌}
 use Rattle.std.specs.Bool.{MatchBool}
 use Rattle.std.specs.List.{list_any, AllByRecursion}
@@ -20,9 +20,8 @@ use Rattle.idb_desk.specs.Steps.{DeskRun, desk_run}
 use Rattle.item_changes.specs.Items.{Items}
 use Rattle.item_changes.specs.Effects.{applied_all}
 use Rattle.item_changes.specs.Scopes.{part_of}
-use Rattle.record_bytes.specs.declared.records.LogRecord.{LogRecord}
 use Rattle.log_history.specs.Batching.{Commit}
-use Rattle.log_history.specs.Kept.{End, Dropped, with_doubt}
+use Rattle.log_history.specs.Kept.{End, with_doubt}
 use Rattle.report_lines.specs.declared.reports.Report.{Report}
 use Rattle.client_machine.specs.FinishEntries.{FinishEntry, scope_of_body, did_commit, changes_kept}
 use Rattle.client_machine.specs.SerialRuns.{RunsOn, RunsAlone, IsSerial, items_after}
@@ -34,11 +33,11 @@ use Rattle.script_statements.specs.declared.script.Client.{Client}
 use Rattle.script_statements.specs.declared.script.ScriptSession.{ScriptSession}
 use Rattle.script_runs.specs.declared.notes.Note.{Note}
 use Rattle.script_handlers.specs.Handling.{Script, ScriptReacts, ScriptWrites}
-use Rattle.legal_sessions.specs.Histories.{SessionHistory, AreClientRuns}
+use Rattle.legal_sessions.specs.Histories.{AreClientRuns}
 use Rattle.legal_sessions.specs.SerialResults.{BegunTx, begun_in, begun_by, AreEntriesOf}
 use Rattle.legal_sessions.specs.Legal.{is_fault, is_in_doubt, DoubtsFit, in_doubt_of, EndsSo, IsLegalReport, may_write, record_of_entry, records_logged, records_in_doubt, commit_at, commits_at}
 use Rattle.session_states.specs.Sessions.{SeatNow, SessionNow}
-use Rattle.session_states.specs.Telling.{ToldTx, BegunAt, begun_at, begun_from, acts_where, acts_at, shown_begun, as_begun, RunningTx, is_running, told_so_far}
+use Rattle.session_states.specs.Telling.{ToldTx, BegunAt, begun_at, begun_from, acts_where, acts_at, shown_begun, as_begun, RunningTx}
 use Rattle.session_states.specs.UnderWay.{AreSeats, IsWaiting, IsFirstWaiting, AreFinishedAs, is_doubted, HasFaults, IsUnderWay}
 use Rattle.session_states.specs.Moves.{entry_ran}
 use Rattle.interrupted_sessions.specs.Interrupted.{AreClientsSoFar, RanWhole, AreLast, HasCommits}
