@@ -18,7 +18,7 @@ use Rattle.idb_keys.specs.declared.names.Mode.TheVariants as mode
 use Rattle.idb_schema.specs.Schemas.{SchemaData}
 use Rattle.idb_calls.specs.Deltas.{DeltaTree, DropDatabase}
 use Rattle.idb_calls.specs.declared.traces.Outcome.{Outcome}
-use Rattle.idb_calls.specs.declared.traces.Outcome.TheVariants.{Committed, Aborted}
+use Rattle.idb_calls.specs.declared.traces.Outcome.TheVariants.{Committed}
 use Rattle.idb_calls.specs.declared.traces.TxTrace.{TxTrace}
 use Rattle.idb_desk.specs.Durabilities.{durability_drawn}
 use Rattle.idb_desk.specs.Refusals.{is_allowed, has_some}
@@ -34,9 +34,8 @@ use Rattle.log_history.specs.Kept.{End, Dropped, Flushed, FailedCommit, FailedFl
 use Rattle.log_history.specs.Replayed.{are_unbroken, after_records}
 use Rattle.session_books.specs.States.{commits_apply}
 use Rattle.session_books.specs.Entering.{is_commit, commits_with}
-use Rattle.serial_order.specs.FinishEntries.{TxBody, Deletion, FinishEntry, scope_of_body, did_commit, changes_kept}
+use Rattle.serial_order.specs.FinishEntries.{Deletion, FinishEntry, scope_of_body, did_commit, changes_kept}
 use Rattle.serial_order.specs.SerialRuns.{RunsOn}
-use Rattle.serial_order.specs.NumberOrder.{FitsItems}
 use Rattle.script_statements.specs.declared.script.ScriptSession.{ScriptSession}
 use Rattle.script_runs.specs.declared.notes.Note.{Note}
 use Rattle.script_handlers.specs.Handling.{Script, ScriptReacts, ScriptWrites}

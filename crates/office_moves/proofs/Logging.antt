@@ -1,7 +1,7 @@
 -- What the log is told as a transaction finishes.
 --     LogLaws               the laws that this stands on
 --     finish_logged         the commits so far, applied to the databases of the beginning, give those of the session
-use Rattle.std.proofs.Common.{◌≡◌, ℕ, Bool, true, false, not, ◌&&◌, List, [], ◌∷◌, ◌++◌, map, if◌then◌else◌, Option, Some, None, refl, sym, ◌∙◌, ap, subst}
+use Rattle.std.proofs.Common.{◌≡◌, ℕ, Bool, true, false, not, ◌&&◌, List, [], ◌∷◌, ◌++◌, map, if◌then◌else◌, Option, Some, refl, sym, ◌∙◌, ap}
 use Rattle.std.proofs.lemmas.List.{append-nil}
 use Rattle.idb_keys.specs.declared.names.Mode.{Mode}
 use Rattle.idb_keys.specs.declared.names.Mode.TheVariants as mode
@@ -18,7 +18,7 @@ use Rattle.record_bytes.specs.declared.records.LogRecord.{LogRecord}
 use Rattle.log_history.specs.Batching.{Commit, records_of_commits}
 use Rattle.log_history.specs.Replayed.{is_at_rest, are_unbroken, after_record, after_records}
 use Rattle.request_lists.specs.Fronts.{is_read_only_mode}
-use Rattle.serial_order.specs.FinishEntries.{ScriptedBody, TxBody, Scripted, Deletion, FinishEntry, scope_of_body, scope_of_entry, did_commit, changes_kept}
+use Rattle.serial_order.specs.FinishEntries.{TxBody, Scripted, Deletion, FinishEntry, scope_of_body, scope_of_entry, did_commit, changes_kept}
 use Rattle.serial_order.specs.SerialRuns.{RunsOn, RunsAlone, IsSerial}
 use Rattle.serial_order.specs.NumberOrder.{EachFits, EachApplies}
 use Rattle.script_statements.specs.declared.script.ScriptSession.{ScriptSession}

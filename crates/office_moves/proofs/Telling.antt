@@ -1,15 +1,20 @@
 -- What a stopped move has told.
+--     at_err                what holds by itself holds where a result is an error
 --     tells_still           nothing changed
 --     tells_run             that of a transaction which ran
 --     tells_behind          behind steps that tell nothing
-use Rattle.std.proofs.Common.{◌≡◌, ◌⊎◌, List, Option, Some, inl, inr, ap}
+use Rattle.std.proofs.Common.{◌≡◌, ◌⊎◌, List, Option, Some, Result, Ok, Err, OnErr, inl, inr, ap}
 use Rattle.item_changes.specs.Items.{Items}
 use Rattle.script_runs.specs.declared.notes.Note.{Note}
 use Rattle.session_states.specs.Telling.{RunningTx}
 use Rattle.client_tasks.specs.Offices.{OfficeState}
-use Rattle.office_moves.specs.Scenes.{DoneNow, Scene, scene_of, LeadsTo}
-use Rattle.office_moves.specs.Stopping.{TellsNoMore, TellsOf, TellsRun, StopsTelling}
+use Rattle.office_moves.specs.Scenes.{DoneNow, scene_of, LeadsTo}
+use Rattle.office_moves.specs.Stopping.{TellsNoMore, TellsOf, StopsTelling}
 use Rattle.office_moves.proofs.Leading.{leads_again}
+
+pub at_err : {T E P : Type 0} (r : Result T E) → P → OnErr r P
+at_err (Ok x) p = tt
+at_err (Err e) p = p
 
 pub tells_still : (old new : DoneNow) → new ≡ old → TellsNoMore old new
 tells_still old new is = record { commits = ap (λ (d : DoneNow). d.commits) is; doubts = ap (λ (d : DoneNow). d.doubts) is }

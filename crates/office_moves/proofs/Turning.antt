@@ -18,14 +18,14 @@ use Rattle.idb_calls.specs.declared.traces.Outcome.{Outcome}
 use Rattle.idb_calls.specs.declared.traces.Outcome.TheVariants.{Committed, Aborted}
 use Rattle.idb_calls.specs.declared.traces.TxTrace.{TxTrace}
 use Rattle.idb_desk.specs.Durabilities.{durability_drawn}
-use Rattle.idb_desk.specs.Steps.{DeskRun, desk_run, IsDeskRun}
+use Rattle.idb_desk.specs.Steps.{desk_run, IsDeskRun}
 use Rattle.item_changes.specs.Items.{Database, Items}
 use Rattle.item_changes.specs.Scopes.{part_of}
 use Rattle.loggable_changes.specs.Logging.{AreLoggable}
 use Rattle.tx_book.specs.Entries.{has_committed, only_reads, CanBeLogged}
 use Rattle.session_books.specs.Entering.{is_commit}
 use Rattle.request_lists.specs.Fronts.{is_read_only_mode}
-use Rattle.serial_order.specs.FinishEntries.{ScriptedBody, TxBody, Scripted, Deletion, did_commit}
+use Rattle.serial_order.specs.FinishEntries.{ScriptedBody, TxBody, Scripted, did_commit}
 use Rattle.serial_order.specs.SerialRuns.{RunsOn}
 use Rattle.serial_order.specs.NumberOrder.{FitsWhole}
 use Rattle.script_runs.specs.declared.notes.Note.{Note}

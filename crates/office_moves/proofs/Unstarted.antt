@@ -7,11 +7,9 @@
 --     noted_leads           as the book has it then
 use Rattle.std.proofs.Common.{◌≡◌, ◌⊎◌, ℕ, Bool, true, false, not, List, [], ◌∷◌, ◌++◌, drop, length, if◌then◌else◌, Option, Some, None, is_some, IfSome, inl, inr, refl, sym, ◌∙◌, ap, subst}
 use Rattle.idb_calls.specs.declared.traces.Outcome.{Outcome}
-use Rattle.idb_calls.specs.declared.traces.Outcome.TheVariants.{Committed, Aborted}
 use Rattle.idb_calls.specs.declared.traces.TxTrace.{TxTrace}
-use Rattle.idb_desk.specs.Refusals.{is_allowed, is_committed}
-use Rattle.idb_desk.specs.declared.steps.DeskStep.TheVariants as step
-use Rattle.idb_desk.specs.Steps.{DeskRun, desk_run, IsDeskRun}
+use Rattle.idb_desk.specs.Refusals.{is_committed}
+use Rattle.idb_desk.specs.Steps.{desk_run, IsDeskRun}
 use Rattle.item_changes.specs.Items.{Name, Items}
 use Rattle.tx_book.specs.Entries.{has_committed}
 use Rattle.request_lists.specs.Fronts.{new_front}
@@ -25,10 +23,9 @@ use Rattle.client_machine.specs.ClientSteps.{may_begin}
 use Rattle.client_tasks.specs.Steps.{FinishesUnstartedInto}
 use Rattle.client_tasks.specs.Offices.{OfficeState}
 use Rattle.session_txs.specs.Running.{EndsUnstarted, IsDroppedDeletion}
-use Rattle.office_moves.specs.Scenes.{DoneNow, scene_of, LeadsTo, IsAtWork, with_number}
+use Rattle.office_moves.specs.Scenes.{DoneNow, scene_of, LeadsTo, with_number}
 use Rattle.office_moves.specs.Running.{IsDropped, EndsBody, DropLeads}
 use Rattle.office_moves.proofs.Laws.{CancelLaw, HostLaw}
-use Rattle.office_moves.proofs.Standing.{AbortedLaw, allowed_aborted}
 use Rattle.office_moves.proofs.Leading.{DurableLaw, drop_leads}
 use Rattle.office_moves.proofs.Turning.{lines_behind}
 

@@ -1,9 +1,10 @@
 -- A session that is stopped has done so much of a legal one as its log was told.
+--     at_err                what holds by itself holds where a result is an error
 --     BetweenLaw, AtEndLaw  the laws of interrupted sessions
 --     stopped_driving       between two moves
 --     stopped_move          within a move
 --     stopped_behind        behind one
-use Rattle.std.proofs.Common.{◌≡◌, false, List, [], ◌∷◌, ◌++◌, ℕ, slice_get, Option, Some, None, inl, inr, sym, subst}
+use Rattle.std.proofs.Common.{◌≡◌, false, List, [], ◌∷◌, ◌++◌, ℕ, slice_get, Option, Some, None, Result, Ok, Err, OnErr, inl, inr, sym, subst}
 use Rattle.idb_schema.specs.Schemas.{SchemaData}
 use Rattle.idb_calls.specs.Deltas.{DeltaTree}
 use Rattle.idb_calls.specs.declared.traces.Outcome.{Outcome}
@@ -28,6 +29,10 @@ use Rattle.office_moves.specs.Stopping.{StopsTelling}
 use Rattle.session_driver.specs.declared.seats.Seat.{Seat}
 use Rattle.session_driver.specs.Seats.{session_seen, IsDriving}
 use Rattle.session_driver.proofs.Driving.{office_at, scene_at}
+
+pub at_err : {T E P : Type 0} (r : Result T E) → P → OnErr r P
+at_err (Ok x) p = tt
+at_err (Err e) p = p
 
 abbrev pub BetweenLaw : Type 0
 BetweenLaw = (session : ScriptSession) (opening : Items) (now : SessionNow) (running : Option RunningTx) → IsUnderWay session opening now running → HasCommits session opening now.commits now.doubts

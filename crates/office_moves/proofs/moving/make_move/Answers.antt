@@ -5,6 +5,7 @@ use Rattle.office_moves.specs.Scenes.{done_of_book}
 use Rattle.office_moves.proofs.Standing.{works_on}
 use Rattle.office_moves.proofs.Turning.{tx_moved, served_moved}
 use Rattle.office_moves.proofs.Telling.{tells_still}
+use Rattle.office_moves.proofs.Telling.{at_err}
 use Rattle.office_moves.proofs.moving.make_move.Goals as goal
 
 pub run_tx-requires-clause-due : goal.run_tx-requires-clause-due
@@ -23,4 +24,4 @@ pub returns-in_ok-run_tx-in-Some-clause-less : goal.returns-in_ok-run_tx-in-Some
 returns-in_ok-run_tx-in-Some-clause-less g c = tx_moved (left_to c.run_tx.new.office.client c.run_tx.new.notes) (left_to c.args.office.now.client c.args.notes.now) (done_of_book c.args.book.now) (done_of_book c.run_tx.new.book) c.in-Some.number c.in_ok-run_tx-in-Some.ensures.leads.less c.in_ok-run_tx-in-Some.ensures.finishes
 
 pub returns-in_err-serve-in-None-clause-stops : goal.returns-in_err-serve-in-None-clause-stops
-returns-in_err-serve-in-None-clause-stops g c = inl (tells_still (done_of_book c.args.book.now) (done_of_book c.args.book.now) refl)
+returns-in_err-serve-in-None-clause-stops g c = at_err c.from_residual-in_err-serve-in-None.result (inl (tells_still (done_of_book c.args.book.now) (done_of_book c.args.book.now) refl))

@@ -3,12 +3,13 @@ use Rattle.serial_order.specs.FinishEntries.{Scripted, Deletion}
 use Rattle.client_parts.specs.declared.begun.BegunBody.{BegunBody}
 use Rattle.client_parts.specs.Holding.{body_seen}
 use Rattle.client_tasks.specs.Offices.{OfficeState}
-use Rattle.office_moves.specs.Running.{begun_run, HoldsBegun, IsDropped}
+use Rattle.office_moves.specs.Running.{begun_run, HoldsBegun}
 use Rattle.office_moves.specs.Scenes.{done_of_book, scene_of, LeadsTo, StandsOn}
 use Rattle.office_moves.proofs.Leading.{leads_again}
 use Rattle.office_moves.proofs.Standing.{stands_behind, works_on}
 use Rattle.office_moves.proofs.AtEnd.{book_calm, calm_so}
 use Rattle.office_moves.proofs.Telling.{tells_run, tells_behind}
+use Rattle.office_moves.proofs.Telling.{at_err}
 use Rattle.office_moves.proofs.moving.run_tx.Goals as goal
 
 pub run_scripted-requires-clause-on : goal.run_scripted-requires-clause-on
@@ -69,21 +70,19 @@ pub returns-then-is_faulted-clause-leads : goal.returns-then-is_faulted-clause-l
 returns-then-is_faulted-clause-leads g c = c.in_ok-drop_tx.ensures.leads c.args.databases.now
 
 pub returns-in_err-run_scripted-in-Some-Scripted-clause-stops : goal.returns-in_err-run_scripted-in-Some-Scripted-clause-stops
-returns-in_err-run_scripted-in-Some-Scripted-clause-stops g c =
-    tells_behind None c.args.office.now c.start_tx.new.office c.args.notes.now c.args.notes.now (done_of_book c.args.book.now) (done_of_book c.run_scripted.new.book) c.args.databases.now
+returns-in_err-run_scripted-in-Some-Scripted-clause-stops g c = at_err c.from_residual-in_err-run_scripted-in-Some-Scripted.result (tells_behind None c.args.office.now c.start_tx.new.office c.args.notes.now c.args.notes.now (done_of_book c.args.book.now) (done_of_book c.run_scripted.new.book) c.args.databases.now
     (Some (begun_run c.args.number (Scripted c.in-Some-Scripted.begun.body)))
     (subst (λ (b : BegunBody). LeadsTo None (Some (begun_run c.args.number (body_seen b))) (scene_of c.args.office.now c.args.notes.now (done_of_book c.args.book.now) c.args.databases.now) (scene_of c.start_tx.new.office c.args.notes.now (done_of_book c.args.book.now) c.args.databases.now)) c.in-Some-Scripted.field-0-is (c.in-Some-Scripted.ensures.started c.args.notes.now (done_of_book c.args.book.now) c.args.databases.now))
-    c.in_err-run_scripted-in-Some-Scripted.ensures.stops
+    c.in_err-run_scripted-in-Some-Scripted.ensures.stops)
 
 pub returns-in_err-settle_deletion-in-Some-Deletion-clause-stops : goal.returns-in_err-settle_deletion-in-Some-Deletion-clause-stops
-returns-in_err-settle_deletion-in-Some-Deletion-clause-stops g c =
-    tells_run None c.args.office.now c.start_tx.new.office c.args.notes.now c.args.notes.now (done_of_book c.args.book.now) (done_of_book c.settle_deletion.new.book) c.args.databases.now
+returns-in_err-settle_deletion-in-Some-Deletion-clause-stops g c = at_err c.from_residual-in_err-settle_deletion-in-Some-Deletion.result (tells_run None c.args.office.now c.start_tx.new.office c.args.notes.now c.args.notes.now (done_of_book c.args.book.now) (done_of_book c.settle_deletion.new.book) c.args.databases.now
     (begun_run c.args.number (Deletion c.in-Some-Deletion.name))
     (subst (λ (b : BegunBody). LeadsTo None (Some (begun_run c.args.number (body_seen b))) (scene_of c.args.office.now c.args.notes.now (done_of_book c.args.book.now) c.args.databases.now) (scene_of c.start_tx.new.office c.args.notes.now (done_of_book c.args.book.now) c.args.databases.now)) c.in-Some-Deletion.field-0-is (c.in-Some-Deletion.ensures.started c.args.notes.now (done_of_book c.args.book.now) c.args.databases.now))
-    c.in_err-settle_deletion-in-Some-Deletion.ensures.stops
+    c.in_err-settle_deletion-in-Some-Deletion.ensures.stops)
 
 pub returns-in_err-drop_tx-in-None-clause-stops : goal.returns-in_err-drop_tx-in-None-clause-stops
-returns-in_err-drop_tx-in-None-clause-stops g c = inl c.in_err-drop_tx-in-None.ensures.stops
+returns-in_err-drop_tx-in-None-clause-stops g c = at_err c.from_residual-in_err-drop_tx-in-None.result (inl c.in_err-drop_tx-in-None.ensures.stops)
 
 pub returns-in_err-drop_tx-clause-stops : goal.returns-in_err-drop_tx-clause-stops
-returns-in_err-drop_tx-clause-stops g c = inl c.in_err-drop_tx.ensures.stops
+returns-in_err-drop_tx-clause-stops g c = at_err c.from_residual.result (inl c.in_err-drop_tx.ensures.stops)

@@ -1,5 +1,4 @@
-use Rattle.std.proofs.Common.{◌≡◌, sym, ap, ◌∙◌, subst, Some}
-use Rattle.idb_calls.specs.declared.traces.TxTrace.{TxTrace}
+use Rattle.std.proofs.Common.{ap, ◌∙◌, Some}
 use Rattle.idb_desk.specs.Durabilities.{durability_drawn}
 use Rattle.idb_desk.specs.Steps.{DeskRun}
 use Rattle.serial_order.specs.FinishEntries.{Scripted}

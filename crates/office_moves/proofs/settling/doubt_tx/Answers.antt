@@ -1,4 +1,4 @@
-use Rattle.std.proofs.Common.{◌≡◌, ◌∙◌, refl, subst}
+use Rattle.std.proofs.Common.{◌∙◌, subst}
 use Rattle.idb_desk.specs.Steps.{IsDeskRun}
 use Rattle.office_moves.proofs.Laws.{driven_doubt}
 use Rattle.office_moves.proofs.Turning.{whether_so}

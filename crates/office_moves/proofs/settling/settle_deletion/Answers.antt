@@ -1,4 +1,4 @@
-use Rattle.std.proofs.Common.{◌≡◌, inl, inr, List, Some, None, refl, sym, ap, ◌∙◌, subst, []}
+use Rattle.std.proofs.Common.{inl, inr, List, Some, None, refl, sym, ap, ◌∙◌, subst, []}
 use Rattle.idb_base.specs.Lists.{IsWithinLimit}
 use Rattle.idb_calls.specs.Deltas.{DeltaTree}
 use Rattle.loggable_changes.specs.Logging.{AreLoggable}
@@ -15,6 +15,7 @@ use Rattle.office_moves.proofs.AtEnd.{timed_here, deletion_runs, deletion_left, 
 use Rattle.session_books.specs.States.{SessionBookState}
 use Rattle.office_moves.proofs.AtEnd.{stops_standing, stops_in_doubt}
 use Rattle.office_moves.proofs.Telling.{tells_still}
+use Rattle.office_moves.proofs.Telling.{at_err}
 use Rattle.office_moves.proofs.settling.settle_deletion.Goals as goal
 
 pub enter-requires-clause-applies : goal.enter-requires-clause-applies
@@ -78,13 +79,13 @@ returns-then-not-stands-clause-leads g c =
 -- where want of memory stops it
 
 pub returns-in_err-named-clause-stops : goal.returns-in_err-named-clause-stops
-returns-in_err-named-clause-stops g c = inl (tells_still (done_of_book c.args.book.now) (done_of_book c.args.book.now) refl)
+returns-in_err-named-clause-stops g c = at_err c.from_residual.result (inl (tells_still (done_of_book c.args.book.now) (done_of_book c.args.book.now) refl))
 
 pub returns-in_err-trace-clause-stops : goal.returns-in_err-trace-clause-stops
-returns-in_err-trace-clause-stops g c = inl (tells_still (done_of_book c.args.book.now) (done_of_book c.args.book.now) refl)
+returns-in_err-trace-clause-stops g c = at_err c.from_residual-in_err-trace.result (inl (tells_still (done_of_book c.args.book.now) (done_of_book c.args.book.now) refl))
 
 pub returns-in_err-stands-clause-stops : goal.returns-in_err-stands-clause-stops
-returns-in_err-stands-clause-stops g c = inl (tells_still (done_of_book c.args.book.now) (done_of_book c.enter.new.book) (ap (λ (b : SessionBookState _). done_of_book b) c.in_err-stands.ensures.unchanged))
+returns-in_err-stands-clause-stops g c = at_err c.from_residual-in_err-stands.result (inl (tells_still (done_of_book c.args.book.now) (done_of_book c.enter.new.book) (ap (λ (b : SessionBookState _). done_of_book b) c.in_err-stands.ensures.unchanged)))
 
 pub returns-in_err-doubt_tx-clause-stops : goal.returns-in_err-doubt_tx-clause-stops
 returns-in_err-doubt_tx-clause-stops g c =
@@ -94,7 +95,7 @@ returns-in_err-doubt_tx-clause-stops g c =
     let done = done_of_book c.args.book.now in
     let there = there_at c.showing_laws.ensures.exists (Some t) office c.args.notes.now done items c.args.number c.args.name c.requires.on c.requires.holds in
     let runs = deletion_runs c.args.number c.args.name c.in_ok-trace.trace c.timed-trace.result office items (subst (λ (n : Name). IsDeletionTrace c.args.number n c.in_ok-trace.trace) c.in_ok-named.ensures c.in_ok-trace.ensures) (timed_here office c.desk.result.now c.timed-trace.result c.in_ok-trace.trace c.desk.ensures c.timed-trace.ensures) there in
-    inr (stops_in_doubt t items office c.timed-trace.result None runs done (done_of_book c.enter.new.book) (c.in_ok-stands.ensures.in_doubt c.if-not-stands.true) (ap (with_doubt []) c.requires.runs) (c.in_ok-stands.ensures.doubted c.if-not-stands.true))
+    at_err c.from_residual-in_err-doubt_tx.result (inr (stops_in_doubt t items office c.timed-trace.result None runs done (done_of_book c.enter.new.book) (c.in_ok-stands.ensures.in_doubt c.if-not-stands.true) (ap (with_doubt []) c.requires.runs) (c.in_ok-stands.ensures.doubted c.if-not-stands.true)))
 
 pub returns-in_err-delete_database-clause-stops : goal.returns-in_err-delete_database-clause-stops
 returns-in_err-delete_database-clause-stops g c =
@@ -104,7 +105,7 @@ returns-in_err-delete_database-clause-stops g c =
     let done = done_of_book c.args.book.now in
     let there = there_at c.showing_laws.ensures.exists (Some t) office c.args.notes.now done items c.args.number c.args.name c.requires.on c.requires.holds in
     let runs = deletion_runs c.args.number c.args.name c.in_ok-trace.trace c.timed-trace.result office items (subst (λ (n : Name). IsDeletionTrace c.args.number n c.in_ok-trace.trace) c.in_ok-named.ensures c.in_ok-trace.ensures) (timed_here office c.desk.result.now c.timed-trace.result c.in_ok-trace.trace c.desk.ensures c.timed-trace.ensures) there in
-    inr (stops_standing t items office c.timed-trace.result None runs done (done_of_book c.enter.new.book) (c.in_ok-stands.ensures.stands c.if-not-stands.false))
+    at_err c.from_residual-in_err-delete_database.result (inr (stops_standing t items office c.timed-trace.result None runs done (done_of_book c.enter.new.book) (c.in_ok-stands.ensures.stands c.if-not-stands.false)))
 
 pub returns-in_err-finish_tx-clause-stops : goal.returns-in_err-finish_tx-clause-stops
 returns-in_err-finish_tx-clause-stops g c =
@@ -114,4 +115,4 @@ returns-in_err-finish_tx-clause-stops g c =
     let done = done_of_book c.args.book.now in
     let there = there_at c.showing_laws.ensures.exists (Some t) office c.args.notes.now done items c.args.number c.args.name c.requires.on c.requires.holds in
     let runs = deletion_runs c.args.number c.args.name c.in_ok-trace.trace c.timed-trace.result office items (subst (λ (n : Name). IsDeletionTrace c.args.number n c.in_ok-trace.trace) c.in_ok-named.ensures c.in_ok-trace.ensures) (timed_here office c.desk.result.now c.timed-trace.result c.in_ok-trace.trace c.desk.ensures c.timed-trace.ensures) there in
-    inr (stops_standing t items office c.timed-trace.result None runs done (done_of_book c.enter.new.book) (c.in_ok-stands.ensures.stands c.if-not-stands.false))
+    at_err c.from_residual-in_err-finish_tx.result (inr (stops_standing t items office c.timed-trace.result None runs done (done_of_book c.enter.new.book) (c.in_ok-stands.ensures.stands c.if-not-stands.false)))

@@ -1,4 +1,4 @@
-use Rattle.std.proofs.Common.{◌≡◌, inl, inr, ◌∙◌, refl, sym, ap, subst, []}
+use Rattle.std.proofs.Common.{inl, inr, ◌∙◌, ap, []}
 use Rattle.log_history.specs.Kept.{with_doubt}
 use Rattle.office_moves.specs.Scenes.{DoneNow, done_of_book}
 use Rattle.office_moves.proofs.Standing.{works_on}
@@ -6,6 +6,7 @@ use Rattle.office_moves.proofs.AtEnd.{allowed_so, enters_so, stands_so, doubts_s
 use Rattle.session_books.specs.States.{SessionBookState}
 use Rattle.office_moves.proofs.AtEnd.{stops_standing, stops_in_doubt}
 use Rattle.office_moves.proofs.Telling.{tells_still}
+use Rattle.office_moves.proofs.Telling.{at_err}
 use Rattle.office_moves.proofs.settling.settle_tx.Goals as goal
 
 pub enter-requires-clause-applies : goal.enter-requires-clause-applies
@@ -55,20 +56,20 @@ returns-then-not-stands-clause-finishes g c =
 
 -- where want of memory stops it
 pub returns-in_err-stands-clause-stops : goal.returns-in_err-stands-clause-stops
-returns-in_err-stands-clause-stops g c = λ t items is closed. inl (tells_still (done_of_book c.args.book.now) (done_of_book c.enter.new.book) (ap (λ (b : SessionBookState _). done_of_book b) c.in_err-stands.ensures.unchanged))
+returns-in_err-stands-clause-stops g c = λ t items is closed. at_err c.from_residual.result (inl (tells_still (done_of_book c.args.book.now) (done_of_book c.enter.new.book) (ap (λ (b : SessionBookState _). done_of_book b) c.in_err-stands.ensures.unchanged)))
 
 pub returns-in_err-take_back-clause-stops : goal.returns-in_err-take_back-clause-stops
-returns-in_err-take_back-clause-stops g c = λ t items is closed. inr (stops_in_doubt t items c.args.office.now c.args.end.trace c.args.end.kept closed.runs (done_of_book c.args.book.now) (done_of_book c.enter.new.book)
-    (c.in_ok-stands.ensures.in_doubt c.if-not-stands.true) (ap (with_doubt []) c.requires.runs) (c.in_ok-stands.ensures.doubted c.if-not-stands.true))
+returns-in_err-take_back-clause-stops g c = λ t items is closed. at_err c.from_residual-in_err-take_back.result (inr (stops_in_doubt t items c.args.office.now c.args.end.trace c.args.end.kept closed.runs (done_of_book c.args.book.now) (done_of_book c.enter.new.book)
+    (c.in_ok-stands.ensures.in_doubt c.if-not-stands.true) (ap (with_doubt []) c.requires.runs) (c.in_ok-stands.ensures.doubted c.if-not-stands.true)))
 
 pub returns-in_err-doubt_tx-clause-stops : goal.returns-in_err-doubt_tx-clause-stops
-returns-in_err-doubt_tx-clause-stops g c = λ t items is closed. inr (stops_in_doubt t items c.args.office.now c.args.end.trace c.args.end.kept closed.runs (done_of_book c.args.book.now) (done_of_book c.enter.new.book)
-    (c.in_ok-stands.ensures.in_doubt c.if-not-stands.true) (ap (with_doubt []) c.requires.runs) (c.in_ok-stands.ensures.doubted c.if-not-stands.true))
+returns-in_err-doubt_tx-clause-stops g c = λ t items is closed. at_err c.from_residual-in_err-doubt_tx.result (inr (stops_in_doubt t items c.args.office.now c.args.end.trace c.args.end.kept closed.runs (done_of_book c.args.book.now) (done_of_book c.enter.new.book)
+    (c.in_ok-stands.ensures.in_doubt c.if-not-stands.true) (ap (with_doubt []) c.requires.runs) (c.in_ok-stands.ensures.doubted c.if-not-stands.true)))
 
 pub returns-in_err-keep-clause-stops : goal.returns-in_err-keep-clause-stops
-returns-in_err-keep-clause-stops g c = λ t items is closed. inr (stops_standing t items c.args.office.now c.args.end.trace c.args.end.kept closed.runs (done_of_book c.args.book.now) (done_of_book c.enter.new.book)
-    (c.in_ok-stands.ensures.stands c.if-not-stands.false))
+returns-in_err-keep-clause-stops g c = λ t items is closed. at_err c.from_residual-in_err-keep.result (inr (stops_standing t items c.args.office.now c.args.end.trace c.args.end.kept closed.runs (done_of_book c.args.book.now) (done_of_book c.enter.new.book)
+    (c.in_ok-stands.ensures.stands c.if-not-stands.false)))
 
 pub returns-in_err-finish_tx-clause-stops : goal.returns-in_err-finish_tx-clause-stops
-returns-in_err-finish_tx-clause-stops g c = λ t items is closed. inr (stops_standing t items c.args.office.now c.args.end.trace c.args.end.kept closed.runs (done_of_book c.args.book.now) (done_of_book c.enter.new.book)
-    (c.in_ok-stands.ensures.stands c.if-not-stands.false))
+returns-in_err-finish_tx-clause-stops g c = λ t items is closed. at_err c.from_residual-in_err-finish_tx.result (inr (stops_standing t items c.args.office.now c.args.end.trace c.args.end.kept closed.runs (done_of_book c.args.book.now) (done_of_book c.enter.new.book)
+    (c.in_ok-stands.ensures.stands c.if-not-stands.false)))

@@ -6,6 +6,7 @@ use Rattle.office_moves.specs.Scenes.{done_of_book, scene_of, StandsOn}
 use Rattle.session_driver.specs.declared.seats.Seat.{Seat}
 use Rattle.session_driver.proofs.Driving.{chosen_within, chosen_seat, chosen_due, seat_sits, stands_there, client_back, less_left}
 use Rattle.session_driver.proofs.Stopping.{stopped_driving, stopped_move, stopped_behind}
+use Rattle.session_driver.proofs.Stopping.{at_err}
 use Rattle.session_driver.proofs.driver.move_client.Goals as goal
 
 pub remove-seat-requires : goal.remove-seat-requires
@@ -52,18 +53,16 @@ returns-clause-less g c =
 
 -- where want of memory stops it
 pub returns-in_err-again-clause-stops : goal.returns-in_err-again-clause-stops
-returns-in_err-again-clause-stops g c = stopped_driving c.interruption_laws.ensures.between c.args.of.now.value c.args.desk c.args.seats.now.items (done_of_book c.args.book.now) c.args.databases.now c.requires.driving
+returns-in_err-again-clause-stops g c = at_err c.from_residual.result (stopped_driving c.interruption_laws.ensures.between c.args.of.now.value c.args.desk c.args.seats.now.items (done_of_book c.args.book.now) c.args.databases.now c.requires.driving)
 
 pub returns-in_err-make_move-clause-stops : goal.returns-in_err-make_move-clause-stops
-returns-in_err-make_move-clause-stops g c =
-    stopped_move c.interruption_laws.ensures.between c.args.of.now.value c.args.desk c.args.seats.now.items (done_of_book c.args.book.now) c.args.databases.now c.requires.driving c.args.place c.remove-seat.result c.new-office.result
+returns-in_err-make_move-clause-stops g c = at_err c.from_residual-in_err-make_move.result (stopped_move c.interruption_laws.ensures.between c.args.of.now.value c.args.desk c.args.seats.now.items (done_of_book c.args.book.now) c.args.databases.now c.requires.driving c.args.place c.remove-seat.result c.new-office.result
     (chosen_seat c.args.desk c.args.seats.now.items c.args.place c.args.number _ c.remove-seat.result c.args.seats.now.ok.0 c.requires.chosen c.remove-seat.ensures.value)
     (c.new-office.ensures ∙ ap (λ (a : Client). record { blocks = a.blocks; client = c.remove-seat.result.client; run = c.args.desk }) c.in_ok-again.ensures)
-    c.interruption_laws.ensures.at_end (done_of_book c.make_move.new.book) c.make_move.ensures.goes.opening c.in_err-make_move.ensures.stops
+    c.interruption_laws.ensures.at_end (done_of_book c.make_move.new.book) c.make_move.ensures.goes.opening c.in_err-make_move.ensures.stops)
 
 pub returns-in_err-put_back-clause-stops : goal.returns-in_err-put_back-clause-stops
-returns-in_err-put_back-clause-stops g c =
-    stopped_behind c.interruption_laws.ensures.between c.args.of.now.value c.args.desk c.args.seats.now.items (done_of_book c.args.book.now) c.args.databases.now c.requires.driving c.args.place c.remove-seat.result c.new-office.result
+returns-in_err-put_back-clause-stops g c = at_err c.from_residual-in_err-put_back.result (stopped_behind c.interruption_laws.ensures.between c.args.of.now.value c.args.desk c.args.seats.now.items (done_of_book c.args.book.now) c.args.databases.now c.requires.driving c.args.place c.remove-seat.result c.new-office.result
     (chosen_seat c.args.desk c.args.seats.now.items c.args.place c.args.number _ c.remove-seat.result c.args.seats.now.ok.0 c.requires.chosen c.remove-seat.ensures.value)
     (c.new-office.ensures ∙ ap (λ (a : Client). record { blocks = a.blocks; client = c.remove-seat.result.client; run = c.args.desk }) c.in_ok-again.ensures)
-    c.make_move.new.office c.make_move.new.notes (done_of_book c.make_move.new.book) c.make_move.new.databases c.in_ok-make_move.ensures.leads
+    c.make_move.new.office c.make_move.new.notes (done_of_book c.make_move.new.book) c.make_move.new.databases c.in_ok-make_move.ensures.leads)

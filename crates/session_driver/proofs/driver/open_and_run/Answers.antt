@@ -5,6 +5,7 @@ use Rattle.idb_databases.specs.Items.{AreItems, is_within_limits}
 use Rattle.log_history.specs.Kept.{with_doubt}
 use Rattle.legal_sessions.specs.Histories.{ShowsItems}
 use Rattle.legal_sessions.specs.Legal.{has_of}
+use Rattle.session_driver.proofs.Stopping.{at_err}
 use Rattle.session_driver.proofs.driver.open_and_run.Goals as goal
 
 pub run_to_end-requires-clause-fresh : goal.run_to_end-requires-clause-fresh
@@ -24,4 +25,4 @@ run_to_end-requires-clause-fresh g c κs within =
     }
 
 pub returns-in_err-opening-clause-stops : goal.returns-in_err-opening-clause-stops
-returns-in_err-opening-clause-stops g c = inl (c.requires.fresh.1, ap (with_doubt []) c.requires.runs)
+returns-in_err-opening-clause-stops g c = at_err c.from_residual.result (inl (c.requires.fresh.1, ap (with_doubt []) c.requires.runs))

@@ -11,6 +11,7 @@ use Rattle.session_driver.proofs.Driving.{begins_so}
 use Rattle.interrupted_sessions.specs.Interrupted.{HasCommits}
 use Rattle.log_history.specs.Kept.{with_doubt}
 use Rattle.session_driver.proofs.Stopping.{stopped_driving}
+use Rattle.session_driver.proofs.Stopping.{at_err}
 use Rattle.session_driver.proofs.driver.run_to_end.Goals as goal
 
 pub drive-requires-clause-driving : goal.drive-requires-clause-driving
@@ -35,17 +36,16 @@ returns-clause-ends g c =
 
 -- where want of memory stops it
 pub returns-in_err-seats-clause-stops : goal.returns-in_err-seats-clause-stops
-returns-in_err-seats-clause-stops g c = inl (c.requires.fresh.commits, c.requires.fresh.doubts)
+returns-in_err-seats-clause-stops g c = at_err c.from_residual.result (inl (c.requires.fresh.commits, c.requires.fresh.doubts))
 
 pub returns-in_err-desk-clause-stops : goal.returns-in_err-desk-clause-stops
-returns-in_err-desk-clause-stops g c = inl (c.requires.fresh.commits, c.requires.fresh.doubts)
+returns-in_err-desk-clause-stops g c = at_err c.from_residual-in_err-desk.result (inl (c.requires.fresh.commits, c.requires.fresh.doubts))
 
 pub returns-in_err-desk-2-clause-stops : goal.returns-in_err-desk-2-clause-stops
-returns-in_err-desk-2-clause-stops g c =
-    inr (subst (λ (s : ScriptSession). HasCommits s c.drive.new.book.opening c.drive.new.book.commits (with_doubt [] c.drive.new.book.end)) c.of-of.ensures c.in_err-desk-2.ensures.stops)
+returns-in_err-desk-2-clause-stops g c = at_err c.from_residual-in_err-desk-2.result (inr (subst (λ (s : ScriptSession). HasCommits s c.drive.new.book.opening c.drive.new.book.commits (with_doubt [] c.drive.new.book.end)) c.of-of.ensures c.in_err-desk-2.ensures.stops))
 
 pub returns-in_err-end-clause-stops : goal.returns-in_err-end-clause-stops
 returns-in_err-end-clause-stops g c =
     let driving = subst (λ (d : DoneNow). IsDriving c.of-of.result.value c.in_ok-desk-2.desk c.drive.new.seats.items d c.drive.new.databases) (sym c.end_log.ensures.same) c.in_ok-desk-2.ensures.driving in
-    inr (subst (λ (s : ScriptSession). HasCommits s c.end_log.new.book.opening c.end_log.new.book.commits (with_doubt [] c.end_log.new.book.end)) c.of-of.ensures
-    (stopped_driving c.interruption_laws.ensures.between c.of-of.result.value c.in_ok-desk-2.desk c.drive.new.seats.items (done_of_book c.end_log.new.book) c.drive.new.databases driving))
+    at_err c.from_residual-in_err-end.result (inr (subst (λ (s : ScriptSession). HasCommits s c.end_log.new.book.opening c.end_log.new.book.commits (with_doubt [] c.end_log.new.book.end)) c.of-of.ensures
+    (stopped_driving c.interruption_laws.ensures.between c.of-of.result.value c.in_ok-desk-2.desk c.drive.new.seats.items (done_of_book c.end_log.new.book) c.drive.new.databases driving)))
