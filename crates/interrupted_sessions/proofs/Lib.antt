@@ -1,1 +1,2 @@
 mod Interrupting
+pub mod Laws

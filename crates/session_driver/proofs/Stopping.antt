@@ -1,28 +1,16 @@
 -- A session that is stopped has done so much of a legal one as its log was told.
 --     at_err                what holds by itself holds where a result is an error
---     BetweenLaw, AtEndLaw  the laws of interrupted sessions
 --     stopped_driving       between two moves
 --     stopped_move          within a move
 --     stopped_behind        behind one
-use Rattle.std.proofs.Common.{◌≡◌, false, List, [], ◌∷◌, ◌++◌, ℕ, slice_get, Option, Some, None, Result, Ok, Err, OnErr, inl, inr, sym, subst}
-use Rattle.idb_schema.specs.Schemas.{SchemaData}
-use Rattle.idb_calls.specs.Deltas.{DeltaTree}
-use Rattle.idb_calls.specs.declared.traces.Outcome.{Outcome}
+use Rattle.std.proofs.Common.{◌≡◌, List, ℕ, slice_get, Option, Some, None, Result, Ok, Err, OnErr, inl, inr, sym, subst}
 use Rattle.idb_desk.specs.Steps.{DeskRun}
 use Rattle.item_changes.specs.Items.{Items}
-use Rattle.item_changes.specs.Scopes.{part_of}
 use Rattle.log_history.specs.Batching.{Commit}
-use Rattle.client_machine.specs.FinishEntries.{scope_of_body}
-use Rattle.client_machine.specs.SerialRuns.{RunsOn}
 use Rattle.script_statements.specs.declared.script.ScriptSession.{ScriptSession}
 use Rattle.script_runs.specs.declared.notes.Note.{Note}
-use Rattle.script_handlers.specs.Handling.{ScriptReacts, ScriptWrites}
-use Rattle.legal_sessions.specs.Legal.{records_logged, records_in_doubt, commits_at}
-use Rattle.session_states.specs.Sessions.{SessionNow}
-use Rattle.session_states.specs.Telling.{RunningTx}
-use Rattle.session_states.specs.UnderWay.{IsUnderWay}
-use Rattle.session_states.specs.Moves.{entry_ran}
 use Rattle.interrupted_sessions.specs.Interrupted.{HasCommits}
+use Rattle.interrupted_sessions.proofs.Laws.{BetweenLaw, AtEndLaw}
 use Rattle.office_moves.specs.Offices.{OfficeState}
 use Rattle.office_moves.specs.Scenes.{DoneNow, scene_of, IsSceneAt, with_scene, IsDriven, LeadsTo}
 use Rattle.office_moves.specs.Stopping.{StopsTelling}
@@ -33,14 +21,6 @@ use Rattle.session_driver.proofs.Driving.{office_at, scene_at}
 pub at_err : {T E P : Type 0} (r : Result T E) → P → OnErr r P
 at_err (Ok x) p = tt
 at_err (Err e) p = p
-
-abbrev pub BetweenLaw : Type 0
-BetweenLaw = (session : ScriptSession) (opening : Items) (now : SessionNow) (running : Option RunningTx) → IsUnderWay session opening now running → HasCommits session opening now.commits now.doubts
-
-abbrev pub AtEndLaw : Type 0
-AtEndLaw = (session : ScriptSession) (opening : Items) (now : SessionNow) (t : RunningTx) (changes : List DeltaTree) (kept : Option SchemaData) (outcome : Outcome) → IsUnderWay session opening now (Some t)
-    → RunsOn ScriptReacts ScriptWrites (part_of (scope_of_body t.body) now.items) t.body t.turns changes kept false outcome
-    → HasCommits session opening (now.commits ++ commits_at now.run.order (records_logged (entry_ran t changes kept outcome ∷ []))) (now.doubts ++ commits_at now.run.order (records_in_doubt (entry_ran t changes kept outcome ∷ [])))
 
 -- as the log was told
 told_so : (session : ScriptSession) (opening now : Items) (commits cs doubts ds : List Commit) → now ≡ opening → cs ≡ commits → ds ≡ doubts → HasCommits session opening commits doubts → HasCommits session now cs ds

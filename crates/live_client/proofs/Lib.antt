@@ -1,0 +1,3 @@
+pub mod BodiesLemmas
+pub mod PlansLemmas
+pub mod UpgradesLemmas

@@ -1,0 +1,3 @@
+pub mod Bodies
+pub mod Plans
+pub mod Upgrades
