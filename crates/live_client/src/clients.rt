@@ -84,8 +84,8 @@ pub(crate) fn run_to_end<T: Tables>(
     }
 }
 
-/// The small client: such an upgrade, run to its end. What it answers is a run of the list machine for these handlers from the state
-/// that the body left: the step that ended it, the state at its end, and what the handlers wrote.
+/// The small client: such an upgrade, run until it ends, or for as many turns as a number counts. What it answers is a run of the list
+/// machine for these handlers from the state that the body left: its last step, the state behind it, and what the handlers wrote.
 pub(crate) fn run_upgrade<T: Tables>(
     alloc: Global,
     body: Body,
