@@ -49,6 +49,38 @@ def modules(crate):
     return [it[:-5] for it in names if it.endswith(".antt") and it != "Lib.antt"]
 
 
+# Words whose definition has no comment of its own, where the comment before it is of another.
+OWN = {
+    ("clone_values", "is_byte"): "a number below 256",
+    ("record_bytes", "records_in_batch"): "the records, where the whole bytes are a batch",
+    ("scope_desk", "is_numbered"): "the transaction has this number",
+    ("name_queues", "is_change"): "it is a versionchange event",
+    ("name_queues", "posted"): "the mail with one event more",
+    ("name_queues", "is_sent"): "the event was sent, and isn't taken",
+    ("name_queues", "is_taken"): "the event was taken, and isn't handled",
+    ("name_queues", "has_conns"): "there is a connection",
+    ("name_queues", "is_box"): "the box is this client's",
+    ("name_queues", "with_event"): "the box with one event more",
+    ("idb_desk", "is_created_stage"): "it was only created",
+    ("idb_desk", "is_committed"): "it committed",
+    ("idb_desk", "created_more"): "it created one more",
+    ("item_changes", "new_index"): "the definition of an index",
+    ("request_lists", "is_read_only_mode"): "the mode is that one",
+    ("request_lists", "is_upgrade_mode"): "the mode is that one",
+    ("request_lists", "after_commit"): "the front is committing",
+    ("request_lists", "after_abort"): "the front has aborted, without an error",
+    ("request_lists", "refusal_of_commit"): "the name by which `commit` is refused",
+    ("request_lists", "refusal_of_abort"): "the name by which `abort` is refused",
+    ("script_runs", "threw"): "the line `throw` as a note",
+    ("script_handlers", "opens"): "a request with its handlers, which opens a cursor",
+    ("client_machine", "is_tx"): "it has this number",
+    ("client_machine", "started_if"): "started, if it has this number",
+    ("client_machine", "end_line"): "the line of an end",
+    ("client_machine", "end_block"): "the block for an end",
+    ("client_machine", "with_tasks"): "the client with these tasks",
+    ("client_machine", "has_thrown"): "the run ended by a throw",
+    ("legal_sessions", "has_of"): "a database's name and version",
+}
 USE = re.compile(r"ghost use Rattle\.(\w+)\.specs\.(\w+)(?:\.\{([^}]*)\}|\.(\w+)| as (\w+))?;")
 
 
@@ -105,7 +137,7 @@ def cited():
     return found, spelled
 
 
-def read(path):
+def read(path, crate):
     """The prose of the file's head, the rows that it lists, and the comment above each public word."""
     lines = lines_of(path)
     prose, rows, at = [], [], 0
@@ -125,9 +157,9 @@ def read(path):
         if line.lstrip().startswith("-- ") and not line.lstrip().startswith("-- ----"):
             above.append(line.strip()[3:])
         elif word:
-            # (a definition with no comment of its own goes with the one before it)
+            # (a definition with no comment of its own goes with the one before it, but for those of OWN)
             last = " ".join(above) or last
-            comments.setdefault(word.group(1), last)
+            comments.setdefault(word.group(1), last if above else OWN.get((crate, word.group(1)), last))
             above = []
         else:
             above = []
@@ -145,7 +177,7 @@ def page():
     for crate in crates():
         rows = []
         for name in modules(crate):
-            prose, listed, comments = read(f"{TOP}/crates/{crate}/specs/{name}.antt")
+            prose, listed, comments = read(f"{TOP}/crates/{crate}/specs/{name}.antt", crate)
             named = set()
             for words, meaning in listed:
                 named |= set(re.findall(r"[A-Za-z][A-Za-z0-9_]*", words))

@@ -209,6 +209,7 @@ module _ (session : ScriptSession) (opening : Items) (now : SessionNow) (running
           shows = u.shows;
           clients = clients_so_far 0 now.run u.waiting session.clients now.seats u.acts u.seats;
           desk = u.desk;
+          theirs = u.theirs;
           serial = record {
             finished = begun u.done;
             unfinished = begun u.waiting;
@@ -324,6 +325,7 @@ interrupted_whole session number opening report commits log_end closing l =
         shows = legal.shows;
         clients = runs_so_far 1 _ session.clients h.acts legal.clients;
         desk = legal.desk;
+        theirs = legal.theirs;
         serial = record {
           finished = legal.serial.finished;
           unfinished = [];

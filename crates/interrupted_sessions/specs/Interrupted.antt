@@ -3,10 +3,10 @@
 --     RanWhole              a transaction that began and isn't finished has run whole: this became of it, which no step tells
 --     AreLast               such a one, or none
 --     HasSerialSoFar        those that finished, and this one, are of those that began, and are what their runs one by one give
---     IsLegalSoFar          a session that had done so much
+--     IsLegalSoFar          a session that had done so much, by its clients' steps and the host's alone
 --     HasCommits            the log was told the commits of these, and those in doubt
 --     WasInterrupted        no commit was made, or there is such a session whose commits these are
-use Rattle.std.specs.Prelude.{◌≡◌, ◌⊎◌, ℕ, ◌+◌, true, List, [], ◌∷◌, ◌++◌, None, ⊤}
+use Rattle.std.specs.Prelude.{◌≡◌, ◌⊎◌, ℕ, ◌+◌, true, List, [], ◌∷◌, ◌++◌, length, None, ⊤}
 use Rattle.std.specs.List.Sorted.{IsPermutation}
 use Rattle.idb_desk.specs.declared.steps.DeskStep.{DeskStep}
 use Rattle.idb_desk.specs.Steps.{DeskRun, IsDeskRun}
@@ -23,7 +23,7 @@ use Rattle.script_statements.specs.declared.script.Client.{Client}
 use Rattle.script_statements.specs.declared.script.ScriptSession.{ScriptSession}
 use Rattle.script_runs.specs.declared.notes.Note.{Note}
 use Rattle.script_handlers.specs.Handling.{Script, ScriptReacts, ScriptWrites}
-use Rattle.legal_sessions.specs.Histories.{SessionHistory, desk_of, ShowsItems}
+use Rattle.legal_sessions.specs.Histories.{SessionHistory, desk_of, AreOfClients, ShowsItems}
 use Rattle.legal_sessions.specs.SerialResults.{BegunTx, begun_by, leaving_of, is_started, AreEntriesOf}
 use Rattle.legal_sessions.specs.Legal.{DoubtsFit, FaultsFit, records_logged, records_in_doubt, commits_at}
 
@@ -70,6 +70,7 @@ pub record IsLegalSoFar (session : ScriptSession) (opening : Items) (h : Session
   pub shows : ShowsItems h.schemas opening
   pub clients : AreClientsSoFar 1 (desk_of h) session.clients h.acts
   pub desk : IsDeskRun (desk_of h)
+  pub theirs : AreOfClients (length session.clients) h.order
   pub serial : HasSerialSoFar opening h last
   pub in_order : IsInOrder (h.finish ++ last)
   pub doubts : DoubtsFit (h.finish ++ last)

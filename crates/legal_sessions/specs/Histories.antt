@@ -2,8 +2,9 @@
 --     SessionHistory        the schemas at its beginning, the steps, each client's acts, and the transactions as they finished
 --     desk_of               the run of the desk
 --     IsClientRun, AreClientRuns    a client ran until nothing was left to do, and its steps are its own in the run
---     ShowsItems            the schemas are those of the databases
-use Rattle.std.specs.Prelude.{◌≡◌, ℕ, ◌+◌, true, List, [], ◌∷◌, Some, is_some, ⊤}
+--     AreOfClients          each step is one of these clients', or the host's
+--     ShowsItems            the schemas are those of the databases, one for each, in the order of names
+use Rattle.std.specs.Prelude.{◌≡◌, ℕ, ◌+◌, ◌≤◌, true, List, [], ◌∷◌, map, Option, Some, None, is_some, ⊤}
 use Rattle.std.specs.List.{AllByRecursion, find}
 use Rattle.std.specs.Cmp.Lexicographic.{pointwise}
 use Rattle.std.specs.Prelude.{Bool, nat_eq}
@@ -12,6 +13,7 @@ use Rattle.idb_schema.specs.Schemas.{SchemaData, IsSchema}
 use Rattle.name_queues.specs.Mails.{events_of}
 use Rattle.idb_desk.specs.declared.steps.DeskStep.{DeskStep}
 use Rattle.idb_desk.specs.Steps.{DeskRun, desk_run}
+use Rattle.idb_desk.specs.Tokens.{client_of}
 use Rattle.item_changes.specs.Items.{Name, Database, Items}
 use Rattle.machine_laws.specs.Keeping.{Shows}
 use Rattle.client_machine.specs.FinishEntries.{FinishEntry}
@@ -49,6 +51,14 @@ AreClientRuns number r (client ∷ clients) (acts ∷ more) = IsClientRun client
 AreClientRuns number r [] (acts ∷ more) = ⊥
 AreClientRuns number r (client ∷ clients) [] = ⊥
 
+-- clients have the numbers from 1 to this one
+abbrev pub IsOfClients : ℕ → Option ℕ → Type 0
+IsOfClients count None = ⊤
+IsOfClients count (Some client) = (1 ≤ client) × (client ≤ count)
+
+abbrev pub AreOfClients : ℕ → List DeskStep → Type 0
+AreOfClients count order = AllByRecursion (λ t. IsOfClients count (client_of t)) order
+
 -- ---- the databases at the beginning
 abbrev pub has_schema_name : Name → SchemaData → Bool
 has_schema_name name schema = pointwise nat_eq schema.name name
@@ -62,3 +72,4 @@ pub record IsShownBy (schema : SchemaData) (d : Database) : Type 0 where
 pub record ShowsItems (schemas : List SchemaData) (items : Items) : Type 0 where
   pub each : (name : Name) (d : Database) → finite.get items name ≡ Some d → (schema : SchemaData) × (find (has_schema_name name) schemas ≡ Some schema) × IsShownBy schema d
   pub only : AllByRecursion (λ schema. is_some (finite.get items schema.name) ≡ true) schemas
+  pub names : map (λ (s : SchemaData). s.name) schemas ≡ map (λ (e : Name × Database). e.0) (finite.entries items)

@@ -1,6 +1,6 @@
 -- What a session may report.
 --     FaultsFit             a commit in doubt, and what follows it, only where the host is faulted
---     IsLegal               client runs, desk run, serial results, and the order in which transactions finished
+--     IsLegal               client runs, a desk run of nobody else's steps, serial results, and the order in which transactions finished
 --     items_at_end          the databases that the session leaves
 --     commits_of            the transactions that committed and may write, as they finished
 --     record_of_entry, records_logged       what the log is told of a transaction;  of those that committed and may write
@@ -11,7 +11,7 @@
 --     report_end            as the report says it
 --     IsReportOf            a report says what a legal session did
 --     IsLegalReport         there is such a session, with these commits and this end of its log
-use Rattle.std.specs.Prelude.{◌≡◌, ◌⊎◌, ℕ, Bool, true, false, not, ◌&&◌, List, [], ◌∷◌, map, filter, ⊤}
+use Rattle.std.specs.Prelude.{◌≡◌, ◌⊎◌, ℕ, Bool, true, false, not, ◌&&◌, List, [], ◌∷◌, length, map, filter, ⊤}
 use Rattle.std.specs.Bool.{MatchBool}
 use Rattle.std.specs.List.{list_any, AllByRecursion}
 use Rattle.std.specs.FinMap as finite
@@ -39,7 +39,7 @@ use Rattle.script_statements.specs.declared.script.ScriptSession.{ScriptSession}
 use Rattle.script_runs.specs.declared.notes.Note.{Note}
 use Rattle.script_handlers.specs.Handling.{Script}
 use Rattle.client_machine.specs.Acts.{lines_of_acts}
-use Rattle.legal_sessions.specs.Histories.{SessionHistory, desk_of, AreClientRuns, ShowsItems}
+use Rattle.legal_sessions.specs.Histories.{SessionHistory, desk_of, AreClientRuns, AreOfClients, ShowsItems}
 use Rattle.legal_sessions.specs.SerialResults.{HasSerialResults, number_of_entry}
 
 -- ---- faults
@@ -67,6 +67,7 @@ pub record IsLegal (session : ScriptSession) (opening : Items) (h : SessionHisto
   pub shows : ShowsItems h.schemas opening
   pub clients : AreClientRuns 1 (desk_of h) session.clients h.acts
   pub desk : IsDeskRun (desk_of h)
+  pub theirs : AreOfClients (length session.clients) h.order
   pub serial : HasSerialResults opening h
   pub in_order : IsInOrder h.finish
   pub faults : FaultsFit h

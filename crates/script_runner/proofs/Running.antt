@@ -22,7 +22,7 @@ use Rattle.report_lines.specs.declared.reports.ReportEnd.TheVariants as end
 use Rattle.script_statements.specs.declared.script.ScriptSession.{ScriptSession}
 use Rattle.legal_sessions.specs.Legal.{report_end, IsLegalReport}
 use Rattle.interrupted_sessions.specs.Interrupted.{HasCommits}
-use Rattle.script_runner.specs.Sessions.{SessionRun, SessionDone, IsLeftBy, GivenAfter, starts_of, starts_after_run, LeavesAfter, BeginsAfter, AreReported, last_run, texts_of, one_if_fault, fault_ends, IsCounted, EndsBetween, EndsByFault, EndsWithin, IsCutOff}
+use Rattle.script_runner.specs.Sessions.{SessionRun, SessionDone, IsLeftBy, GivenAfter, starts_of, starts_after_run, LeavesAfter, BeginsAfter, AreReported, last_run, texts_of, one_if_fault, fault_ends, IsCounted, EndsBetween, EndsAtOpening, EndsByFault, EndsWithin, IsCutOff}
 use Rattle.script_runner.specs.Running.{IsOpenedOn, IsUnopened, RanOn, StopsIn, StopsBy, EndsBy, RanSoFar}
 use Rattle.script_runner.specs.Stops.{stop_of_recovery}
 use Rattle.script_runner.specs.declared.stops.Stop.{Stop}
@@ -41,9 +41,10 @@ unopened_leaves entry mid left (Some last) leaves given (inr same) = λ image ma
     let c = same image may in left_again last c.given image c.stepped.items (given c.given c.was_given)
 
 -- what reads gave was found as databases, so it came damaged to the first session only
-pub begun_on : (entry mid : DiskView) (before : Option SessionRun) (run : SessionRun) → GivenAfter entry before mid.reads → mid.starts ≡ starts_after_run entry before → IsOpenedOn mid run → BeginsAfter entry before run
-begun_on entry mid before run given started opened = record {
+pub begun_on : (entry mid : DiskView) (before : Option SessionRun) (run : SessionRun) → GivenAfter entry before mid.reads → is_some mid.reads ≡ is_some entry.reads → mid.starts ≡ starts_after_run entry before → IsOpenedOn mid run → BeginsAfter entry before run
+begun_on entry mid before run given tells started opened = record {
   given = subst (GivenAfter entry before) (sym opened.told) given;
+  tells = ap is_some opened.told ∙ tells;
   started = opened.started ∙ started;
   found_so = opened.found_so;
 }
@@ -174,15 +175,15 @@ module _ (entry now : DiskView) (all rest : List ScriptSession) (held held_now :
     ran.appended,
   )
 
-  pub stands_faulted : (left : DiskView) → NoNewImage now left → now.faults ≤ left.faults → Rose now.faults left.faults → EndsByFault entry left all held held_now
+  pub stands_faulted : (left : DiskView) → 1 ≤ length rest → NoNewImage now left → now.faults ≤ left.faults → Rose now.faults left.faults → EndsByFault entry left all held held_now
   unfolding stands_still
-  stands_faulted left none_new more rose =
+  stands_faulted left some none_new more rose =
       let ends = stands_still left none_new more in
-      (ends.0, ends.1, counted_risen entry.faults (fault_ends ran.done) now.faults left.faults ran.counted rose, ends.2)
+      (ends.0, ends.1, some, counted_risen entry.faults (fault_ends ran.done) now.faults left.faults ran.counted rose, ends.2)
 
 module _ (entry now mid left : DiskView) (all : List ScriptSession) (session : ScriptSession) (rest : List ScriptSession) (held held_now held_then : Option (List ℕ)) (number next : ℕ)
     (ran : RanSoFar entry now all (session ∷ rest) held held_now number) (one : next ≡ number + 1)
-    (none_new : NoNewImage now mid) (first : number ≡ 0 → mid.reads ≡ now.reads) (again : mid.starts ≡ (if number == 0 then now.starts else now.starts + 1)) (told : WhereTold mid now.may_leave) (so_far : now.faults ≤ mid.faults) (more : mid.faults ≤ left.faults) where
+    (none_new : NoNewImage now mid) (first : number ≡ 0 → mid.reads ≡ now.reads) (again : mid.starts ≡ (if number == 0 then now.starts else now.starts + 1)) (told : WhereTold mid now.may_leave) (so_far : now.faults ≤ mid.faults) (more : mid.faults ≤ left.faults) (tells : is_some mid.reads ≡ is_some entry.reads) where
   abbrev last : Option SessionRun
   last = last_run None ran.done
 
@@ -203,7 +204,7 @@ module _ (entry now mid left : DiskView) (all : List ScriptSession) (session : S
     done = record { run = run.run; report = report; closing = run.closing }
 
     reported_more : AreReported entry None 1 (ran.front ++ session ∷ []) (ran.done ++ done ∷ [])
-    reported_more = one_more entry None 1 next ran.front ran.done session done (omega (arith, one, ran.many)) ran.reported (begun_on entry mid last run.run given started run.opened) (run.legal, run.cause)
+    reported_more = one_more entry None 1 next ran.front ran.done session done (omega (arith, one, ran.many)) ran.reported (begun_on entry mid last run.run given tells started run.opened) (run.legal, run.cause)
 
     leaves_more : LeavesAfter entry (last_run None (ran.done ++ done ∷ [])) left
     leaves_more = subst (λ o. LeavesAfter entry o left) (sym (last_more None ran.done done)) run.images
@@ -262,7 +263,7 @@ module _ (entry now mid left : DiskView) (all : List ScriptSession) (session : S
       split = ran.split;
       reported = ran.reported;
       run = stops.run;
-      begun = begun_on entry mid last stops.run given started stops.opened;
+      begun = begun_on entry mid last stops.run given tells started stops.opened;
       made = stops.made;
       images = stops.images;
       counted = counted_one entry.faults (fault_ends ran.done) now.faults mid.faults left.faults (report_end stops.run.end) ran.counted so_far more stops.fault;
@@ -270,22 +271,25 @@ module _ (entry now mid left : DiskView) (all : List ScriptSession) (session : S
     subst (λ h. Appends held h (texts_of ran.done)) (sym same) ran.appended,
   )
 
+  one_left : 1 ≤ length (session ∷ rest)
+  one_left = omega arith
+
   -- the disk that came told what it holds, so this one tells it still
-  damaged_so : (area_place : Area × ℕ) → is_some mid.reads ≡ is_some entry.reads → WhereTold mid (λ areas. found areas ≡ Err area_place) → WhereTold entry (λ areas. found areas ≡ Err area_place)
-  damaged_so damage tells here = came_damaged entry mid last damage given tells here
+  damaged_so : (area_place : Area × ℕ) → WhereTold mid (λ areas. found areas ≡ Err area_place) → WhereTold entry (λ areas. found areas ≡ Err area_place)
+  damaged_so damage here = came_damaged entry mid last damage given tells here
 
   pub have_stopped : (why : Stop) → StopsBy ((report : Report) × RanOn mid left next session report × AppendsFront held_now held_then (text_of_report report)) session why mid left
-      → ((why ≡ stop.WriteFault → ⊥) → held_then ≡ held_now) → is_some mid.reads ≡ is_some entry.reads → entry.faults ≤ mid.faults → EndsBy why entry left all held held_then
+      → ((why ≡ stop.WriteFault → ⊥) → held_then ≡ held_now) → entry.faults ≤ mid.faults → EndsBy why entry left all held held_then
   unfolding between
-  have_stopped stop.DiskFault stopped same tells since =
+  have_stopped stop.DiskFault stopped same since =
       let ends = between stopped.0 (same (λ e. absurd cc)) in
       let risen = counted_risen entry.faults (fault_ends ran.done) now.faults left.faults ran.counted (rose_since now.faults mid.faults left.faults so_far stopped.1) in
-      ((ends.0, ends.1, risen, ends.2), rose_since entry.faults mid.faults left.faults since stopped.1)
-  have_stopped (stop.Damaged area place) stopped same tells since = (
-    between stopped.0 (same (λ e. absurd cc)),
+      ((ends.0, ends.1, one_left, risen, ends.2), rose_since entry.faults mid.faults left.faults since stopped.1)
+  have_stopped (stop.Damaged area place) stopped same since = (
+    (let ends = between stopped.0 (same (λ e. absurd cc)) in (ends.0, ends.1, one_left, ends.2)),
     omega (arith, ap length ran.split, length-append ran.front (session ∷ rest)),
-    damaged_so (area, place) tells stopped.1,
+    damaged_so (area, place) stopped.1,
   )
-  have_stopped stop.WriteFault stopped same tells since = cut_off stopped.0 stopped.1 stopped.2
-  have_stopped stop.NoMemory (inl unopened) same tells since = inl (between unopened (same (λ e. absurd cc)))
-  have_stopped stop.NoMemory (inr stops) same tells since = inr (within stops (same (λ e. absurd cc)))
+  have_stopped stop.WriteFault stopped same since = cut_off stopped.0 stopped.1 stopped.2
+  have_stopped stop.NoMemory (inl unopened) same since = inl (between unopened (same (λ e. absurd cc)))
+  have_stopped stop.NoMemory (inr stops) same since = inr (within stops (same (λ e. absurd cc)))

@@ -19,7 +19,7 @@ use Rattle.report_lines.specs.declared.reports.ReportEnd.TheVariants as end
 use Rattle.script_statements.specs.declared.script.ScriptSession.{ScriptSession}
 use Rattle.legal_sessions.specs.Legal.{report_end, IsLegalReport}
 use Rattle.session_driver.specs.Ending.{HadCause}
-use Rattle.script_runner.specs.Sessions.{SessionRun, SessionDone, IsLeftBy, HasMade, starts_of, LeavesAfter, AreReported, last_run, texts_of, fault_ends, IsCounted, EndsBetween, EndsByFault, EndsWithin, IsCutOff}
+use Rattle.script_runner.specs.Sessions.{SessionRun, SessionDone, IsLeftBy, HasMade, starts_of, LeavesAfter, AreReported, last_run, texts_of, fault_ends, IsCounted, EndsBetween, EndsAtOpening, EndsByFault, EndsWithin, IsCutOff}
 use Rattle.script_runner.specs.declared.stops.Stop.{Stop}
 use Rattle.script_runner.specs.declared.stops.Stop.TheVariants as stop
 
@@ -59,7 +59,7 @@ StopsBy cut session stop.NoMemory old left = IsUnopened old left ⊎ StopsIn ses
 abbrev pub EndsBy : Stop → (entry left : DiskView) → List ScriptSession → (held held_now : Option (List ℕ)) → Type 0
 EndsBy stop.DiskFault entry left sessions held held_now = EndsByFault entry left sessions held held_now × Rose entry.faults left.faults
 EndsBy (stop.Damaged area place) entry left sessions held held_now =
-    EndsBetween entry left sessions held held_now × (0 < length sessions) × WhereTold entry (λ areas. found areas ≡ Err (area, place))
+    EndsAtOpening entry left sessions held held_now × (0 < length sessions) × WhereTold entry (λ areas. found areas ≡ Err (area, place))
 EndsBy stop.WriteFault entry left sessions held held_now = IsCutOff entry left sessions held held_now
 EndsBy stop.NoMemory entry left sessions held held_now = EndsBetween entry left sessions held held_now ⊎ EndsWithin entry left sessions held held_now
 

@@ -8,7 +8,8 @@
 --     starts_of             how often the disk had been started, where the last session that began was opened, or as it came
 --     starts_after_run      it is started again once behind a session, before the next one is opened
 --     LeavesAfter           what a stop may leave after the last session that began; before the first, what it found as the disk came
---     BeginsAfter           a session began on what the one before it left, behind a start, and its databases are those that are found there
+--     BeginsAfter           a session began on what the one before it left, behind a start, and its databases are those that are found
+--                           there; a disk that told its content as it came told it then
 --     IsReported            its report is a legal one, on these databases with these commits and this end of its log, which is a failed flush
 --                           only where some were still to be written
 --     AreReported           each session has begun so, and is reported so, under its number
@@ -19,9 +20,10 @@
 --     StopsWithin           the first ones are reported, and the next one began, and stopped before its report: its commits are those of
 --                           what it had done, and a fault by which its log ended is counted too
 --     EndsBetween, EndsWithin     so, and just the texts of these reports were written
---     EndsByFault           between two sessions, by a fault of the disk: a fault was counted beside those that sessions ended by
+--     EndsAtOpening         it ended between two sessions, or before the first, and one more was to be opened
+--     EndsByFault           it ended so by a fault of the disk: a fault was counted beside those that sessions ended by
 --     IsCutOff              of the last of the reports a front was written, and all of those before it
-use Rattle.std.specs.Prelude.{◌≡◌, ◌⊎◌, ⊤, ℕ, ◌+◌, ◌-◌, ◌^◌, ◌≤◌, List, [], ◌∷◌, ◌++◌, length, take, flat_map, Option, Some, None, Ok}
+use Rattle.std.specs.Prelude.{◌≡◌, ◌⊎◌, ⊤, ℕ, ◌+◌, ◌-◌, ◌^◌, ◌≤◌, List, [], ◌∷◌, ◌++◌, length, take, flat_map, Option, Some, None, is_some, Ok}
 use Rattle.std.specs.Option.{ForSome}
 use Rattle.std.specs.Io.KnownBytes.{Appends}
 use Rattle.disk_trait.specs.Areas.{Areas}
@@ -79,6 +81,7 @@ LeavesAfter entry (Some last) left = EachImage left (IsLeftBy last)
 
 pub record BeginsAfter (entry : DiskView) (before : Option SessionRun) (run : SessionRun) : Type 0 where
   pub given : GivenAfter entry before run.told
+  pub tells : is_some run.told ≡ is_some entry.reads
   pub started : run.starts ≡ starts_after_run entry before
   pub found_so : ForSome run.told (λ areas. found areas ≡ Ok run.opening)
 
@@ -138,9 +141,13 @@ pub record StopsWithin (entry left : DiskView) (sessions : List ScriptSession) (
 abbrev pub EndsBetween : (entry left : DiskView) → List ScriptSession → (held held_now : Option (List ℕ)) → Type 0
 EndsBetween entry left sessions held held_now = (done : List SessionDone) × StopsBetween entry left sessions done × Appends held held_now (texts_of done)
 
+abbrev pub EndsAtOpening : (entry left : DiskView) → List ScriptSession → (held held_now : Option (List ℕ)) → Type 0
+EndsAtOpening entry left sessions held held_now =
+    (done : List SessionDone) × (stops : StopsBetween entry left sessions done) × (1 ≤ length stops.rest) × Appends held held_now (texts_of done)
+
 abbrev pub EndsByFault : (entry left : DiskView) → List ScriptSession → (held held_now : Option (List ℕ)) → Type 0
 EndsByFault entry left sessions held held_now =
-    (done : List SessionDone) × StopsBetween entry left sessions done × IsCounted entry.faults (fault_ends done + 1) left.faults × Appends held held_now (texts_of done)
+    (done : List SessionDone) × (stops : StopsBetween entry left sessions done) × (1 ≤ length stops.rest) × IsCounted entry.faults (fault_ends done + 1) left.faults × Appends held held_now (texts_of done)
 
 abbrev pub EndsWithin : (entry left : DiskView) → List ScriptSession → (held held_now : Option (List ℕ)) → Type 0
 EndsWithin entry left sessions held held_now = (done : List SessionDone) × StopsWithin entry left sessions done × Appends held held_now (texts_of done)

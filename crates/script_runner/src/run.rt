@@ -9,7 +9,7 @@ ghost use Rattle.log_history.specs.Found.{found};
 ghost use Rattle.script_statements.specs.declared.script.Script.{Script};
 ghost use Rattle.script_runner.specs.Commands.{IsRun, usage_text};
 ghost use Rattle.script_runner.specs.Inputs.{ReadsAs, ReadsTooMuch, due_of};
-ghost use Rattle.script_runner.specs.Sessions.{SessionDone, AreReported, starts_of, LeavesAfter, last_run, texts_of, fault_ends, IsCounted, EndsBetween, EndsByFault, EndsWithin, IsCutOff};
+ghost use Rattle.script_runner.specs.Sessions.{SessionDone, AreReported, starts_of, LeavesAfter, last_run, texts_of, fault_ends, IsCounted, EndsBetween, EndsAtOpening, EndsByFault, EndsWithin, IsCutOff};
 ghost use Rattle.script_runner.specs.Statuses.{IsUnwritten};
 ghost use Rattle.script_runner.specs.declared.status.Status.TheVariants as status;
 
@@ -80,14 +80,15 @@ pub fn run_words<R: Threads + Wait + Sync, S: Source, K: Sink, D: Disk + Send, G
         × IsCutOff (D.shows disk) (D.shows result.disk) script.sessions (K.held sink.old) (K.held sink.new) }
 
     // The first sessions are reported, and no other began; or one more began, and what a stop may leave is what it may leave, with the
-    // commits of what it had done. Where it is a fault of the disk, one more was counted than those by which sessions ended.
+    // commits of what it had done. Where the disk failed or is damaged, one more was to be opened; where it failed, one fault more was
+    // counted than those by which sessions ended.
     ensures disk_fault { result.status ≡ Status.DiskFault
         → (script : Script) × ReadsAs (S.left source.old) (S.left source.new) (Ok script)
         × EndsByFault (D.shows disk) (D.shows result.disk) script.sessions
         (K.held sink.old) (K.held sink.new) }
     ensures damaged { (area : Area) (place : ℕ) → result.status ≡ status.Damaged area place
         → (script : Script) × ReadsAs (S.left source.old) (S.left source.new) (Ok script)
-        × EndsBetween (D.shows disk) (D.shows result.disk) script.sessions
+        × EndsAtOpening (D.shows disk) (D.shows result.disk) script.sessions
         (K.held sink.old) (K.held sink.new) }
     ensures no_memory { result.status ≡ Status.NoMemory
         → ((sink.new ≡ sink.old) × (result.disk ≡ disk))

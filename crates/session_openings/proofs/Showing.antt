@@ -61,6 +61,10 @@ schema_found (e ∷ es) name =
     ∙ ap (λ b. cond b (Some (opened_schema e)) (option_map (λ (d : Database). opened_schema (name, d)) (finite.find name_cmp name es))) (texts_ties e.0 name ∙ (eq_by_cmp_equiv names_total).symm e.0 name)
     ∙ found_or (is_same_name name e.0) name e (finite.find name_cmp name es) (λ same. sym (same_name name e.0 same))
 
+names_made : (es : List (Name × Database)) → map (λ (s : SchemaData). s.name) (map opened_schema es) ≡ map (λ (e : Name × Database). e.0) es
+names_made [] = refl
+names_made (e ∷ es) = ap (λ ns. e.0 ∷ ns) (names_made es)
+
 pub shows_items : (items : Items) (schemas : List SchemaData) → schemas ≡ map opened_schema (finite.entries items) → AllByRecursion IsSchema schemas → AreItems items → ShowsItems schemas items
 shows_items items schemas made valid sound = subst (λ ss. ShowsItems ss items) (sym made) (record {
   each = λ name d at. (
@@ -73,6 +77,7 @@ shows_items items schemas made valid sound = subst (λ ss. ShowsItems ss items) 
     },
   );
   only = all_made opened_schema (λ s. is_some (finite.get items s.name) ≡ true) (finite.entries items) (all_entries name_cmp names_total one_name (λ name d. is_some (finite.get items name) ≡ true) items (λ name d at. ap is_some at));
+  names = names_made (finite.entries items);
 })
   where
     all_valid : AllByRecursion (λ e. IsSchema (opened_schema (e.0, e.1))) (finite.entries items)

@@ -157,6 +157,7 @@ module _ (sound : (r : DeskRun) → IsDeskRun r → IsSound (desk_run r)) where
           shows = u.shows;
           clients = client_runs 0 now.run session.clients now.seats u.acts (subst (λ ws. AreSeats 0 now.run ws session.clients now.seats u.acts) none u.seats) at_end.no_task at_end.no_event;
           desk = u.desk;
+          theirs = u.theirs;
           serial = record {
             finished = map (begun_as u.acts) (map as_begun u.done);
             all = subst (λ bs. IsPermutation bs (map (begun_as u.acts) (map as_begun u.done))) (begun_told [] u.acts) (IsPermutation-map (begun_as u.acts) (begun_from 0 u.acts) (map as_begun u.done) all);

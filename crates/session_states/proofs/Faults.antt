@@ -44,7 +44,7 @@ use Rattle.legal_sessions.specs.Legal.{is_fault, is_in_doubt, DoubtsFit, record_
 use Rattle.session_states.specs.Sessions.{SessionNow, with_fault}
 use Rattle.session_states.specs.Telling.{told_of, acts_at, BegunAt, shown_begun, RunningTx}
 use Rattle.session_states.specs.UnderWay.{IsWaiting, HasBegun, AreFinishedAs, IsInStep, is_doubted, HasFaults, IsUnderWay}
-use Rattle.session_states.proofs.Told.{any_both, told_off}
+use Rattle.session_states.proofs.Told.{any_both, theirs_with, told_off}
 use Rattle.session_states.proofs.Placed.{all_stay}
 
 abbrev Entry : Type 0
@@ -265,6 +265,7 @@ in_step_faulted session opening now running u run = (
     entries = u.entries;
     shows = u.shows;
     desk = run;
+    theirs = theirs_with (length session.clients) now.run.order step.Faults u.theirs tt;
     seats = all_stay 0 now.run (with_step now.run step.Faults) u.waiting u.waiting session.clients now.seats u.acts
         (λ script at seat own le is. record { runs = is.runs; agrees = agrees_faulted (at + 1) now.run own is.agrees; number = is.number; lines = is.lines; txs = is.txs }) u.seats;
     begun = begun_faulted now.run u.acts running u.done u.waiting u.begun;

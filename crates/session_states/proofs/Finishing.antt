@@ -43,7 +43,7 @@ use Rattle.session_states.proofs.Faults.{desk_faults, running_calm, faults_left,
 use Rattle.session_states.proofs.Beginnings.{equal_self, txs_more, txs_still, first_apart}
 use Rattle.session_states.proofs.Passing.{found_first, left_apart, finished_still, begun_grows}
 use Rattle.session_states.proofs.Turning.{begun_leaves, told_left, leave_others}
-use Rattle.session_states.proofs.Moving.{there, is_there, made_there, seats_moved, still_shown, none_silent, apart_silent, own_here, others_left, waits_first, runs_first}
+use Rattle.session_states.proofs.Moving.{there, is_there, made_there, seats_moved, still_shown, still_theirs, none_silent, apart_silent, own_here, others_left, waits_first, runs_first}
 
 abbrev Entry : Type 0
 Entry = FinishEntry Script Note
@@ -149,6 +149,7 @@ module _ (session : ScriptSession) (opening : Items) (now : SessionNow) (running
         entries = u.entries ++ e ∷ [];
         shows = still_shown session opening now running place script before seat acts r u m;
         desk = m.run;
+        theirs = still_theirs session opening now running place script before seat acts r u m;
         seats = seats_moved session opening now running place script before seat acts r u m later moves (g.number ∙ number)
             (g.txs ∙ ap (λ l. l ++ txs_begun ends) txs ∙ sym (txs_more place rest (txs_begun ends)))
             (λ other out. txs_still place other rest (txs_begun ends) out ∙ others_left place b rest here other out ∙ ap (txs_at other) (sym are));

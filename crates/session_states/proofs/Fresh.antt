@@ -48,6 +48,7 @@ fresh_under_way runs session schemas items shows = record {
     entries = [];
     shows = shows;
     desk = runs schemas;
+    theirs = tt;
     seats = seats_fresh 0 schemas session.clients;
     begun = record {
       all = subst (λ bs. IsPermutation bs []) (sym (none_begun 0 session.clients)) (IsPermutation-refl []);

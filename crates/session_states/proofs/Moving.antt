@@ -3,10 +3,11 @@
 --     tame_under_way        a task or an event
 --     start_under_way, turn_under_way       a transaction starts, or has a turn
 --     durable_there         the durability of one that the client has stays
-use Rattle.std.proofs.Common.{◌≡◌, ◌≢◌, ℕ, ◌+◌, true, false, List, [], ◌∷◌, ◌++◌, map, slice_set, if◌then◌else◌, Option, Some, None, refl, sym, ◌∙◌, ap, subst, arith}
+use Rattle.std.proofs.Common.{◌≡◌, ◌≢◌, ℕ, ◌+◌, true, false, List, [], ◌∷◌, ◌++◌, length, map, slice_set, if◌then◌else◌, Option, Some, None, refl, sym, ◌∙◌, ap, subst, arith}
 use Rattle.std.specs.Prelude.{◌==◌}
 use Rattle.std.specs.List.{find, AllByRecursion}
 use Rattle.std.proofs.lemmas.List.Concat.{flat_map-append}
+use Rattle.std.proofs.lemmas.Option.{slice_get_within}
 use Rattle.idb_desk.specs.declared.steps.DeskStep.TheVariants as step
 use Rattle.idb_desk.specs.Durabilities.{durability_drawn}
 use Rattle.idb_desk.specs.Steps.{DeskRun, desk_run, IsDeskRun}
@@ -22,13 +23,13 @@ use Rattle.client_machine.proofs.Laws.{agrees_own, agrees_other}
 use Rattle.client_ties.specs.Unfinished.{UnfinishedTx, unfinished_of, least_of, Draws}
 use Rattle.client_ties.specs.Ties.{shown_tx}
 use Rattle.client_ties.proofs.Laws.{IsSound, Grows, notes_txs, least_unfinished}
-use Rattle.legal_sessions.specs.Histories.{ShowsItems}
+use Rattle.legal_sessions.specs.Histories.{AreOfClients, ShowsItems}
 use Rattle.session_states.specs.Sessions.{SeatNow, SessionNow, with_seat}
 use Rattle.session_states.specs.Telling.{BegunAt, begun_at, txs_at, shown_begun, RunningTx}
 use Rattle.session_states.specs.UnderWay.{IsSeatOf, AreSeats, IsFirstWaiting, HasBegun, IsInStep, HasFaults, IsUnderWay}
 use Rattle.session_states.specs.Moves.{Moves}
 use Rattle.session_states.proofs.Lasting.{logged_still, doubted_still, durable_still}
-use Rattle.session_states.proofs.Told.{made_order, made_faults, IsSilent, tame_silent}
+use Rattle.session_states.proofs.Told.{made_order, made_theirs, made_faults, IsSilent, tame_silent}
 use Rattle.session_states.proofs.Placed.{SeatAt, seat_at, seats_changed}
 use Rattle.session_states.proofs.Faults.{start_calm, running_calm, faults_still}
 use Rattle.session_states.proofs.Beginnings.{some_same, equal_self, unequal, txs_more, txs_still, AreApart, first_apart}
@@ -104,6 +105,9 @@ module _ (session : ScriptSession) (opening : Items) (now : SessionNow) (running
   pub still_shown : ShowsItems r.opening opening
   still_shown = subst (λ (q : DeskRun). ShowsItems q.opening opening) (sym (made_order (place + 1) now.run r acts made_there)) u.shows
 
+  pub still_theirs : AreOfClients (length session.clients) r.order
+  still_theirs = made_theirs (length session.clients) (place + 1) now.run r acts (omega arith) (let k = slice_get_within session.clients place script m.script_at in omega (arith, k)) u.theirs made_there
+
   -- the transactions that finished are as they were
   pub assembled : (next : Option RunningTx) (later : List BegunAt) → AreSeats 0 r later session.clients (slice_set now.seats place seat) acts_now → HasBegun r acts_now next u.done later
       → AllByRecursion (λ (b : BegunAt). IsSilent b.tx.number acts) u.done → HasFaults r.order next u.entries → IsUnderWay session opening (with_seat place r seat now) next
@@ -115,6 +119,7 @@ module _ (session : ScriptSession) (opening : Items) (now : SessionNow) (running
       entries = u.entries;
       shows = still_shown;
       desk = m.run;
+      theirs = still_theirs;
       seats = seats;
       begun = begun;
       finished = record {

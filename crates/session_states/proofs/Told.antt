@@ -1,11 +1,12 @@
 -- What more acts tell of a transaction.
 --     steps_of, made_order  the steps among acts;  a run after they were made
+--     theirs_with, made_theirs      steps of clients of the session, one more of these;  and acts of one client
 --     made_faults           none of them is a fault
 --     says, IsSilent        an act tells something of the transaction of this number
 --     tame_silent           tasks and events tell nothing
 --     told_on, told_off     behind its client's acts, and behind another client's, what is silent tells nothing
 --     told_kept             of the client of any place
-use Rattle.std.proofs.Common.{◌≡◌, ◌≢◌, ℕ, zero, suc, Bool, true, false, ◌||◌, List, [], ◌∷◌, ◌++◌, slice_get, slice_set, if◌then◌else◌, Option, Some, None, inl, inr, refl, sym, ◌∙◌, ap}
+use Rattle.std.proofs.Common.{◌≡◌, ◌≢◌, ◌≤◌, ℕ, zero, suc, Bool, true, false, ◌||◌, List, [], ◌∷◌, ◌++◌, slice_get, slice_set, if◌then◌else◌, Option, Some, None, inl, inr, refl, sym, ◌∙◌, ap, subst}
 use Rattle.std.specs.Prelude.{◌==◌}
 use Rattle.std.specs.List.{list_any, AllByRecursion}
 use Rattle.std.proofs.lemmas.Bool.{cases_Bool}
@@ -21,6 +22,7 @@ use Rattle.idb_desk.specs.Tokens.{client_of}
 use Rattle.client_machine.specs.Acts.{Act, Noted, Makes, Fails, Begins, TakesTurn, turn_of_act, turns_of}
 use Rattle.client_machine.specs.Answering.{MadeAtOnce}
 use Rattle.client_ties.proofs.Laws.{is_tame}
+use Rattle.legal_sessions.specs.Histories.{IsOfClients, AreOfClients}
 use Rattle.legal_sessions.specs.SerialResults.{leaving_of, is_start_of, is_started}
 use Rattle.legal_sessions.specs.Legal.{is_fault}
 use Rattle.session_states.specs.Telling.{told_of, acts_where, acts_at}
@@ -44,6 +46,20 @@ made_order client r last (Noted n ∷ acts) m = made_order client r last acts m
 made_order client r last (Fails t name ∷ acts) m = made_order client r last acts m.1.1
 made_order client r last (Begins tx ∷ acts) m = made_order client r last acts m
 made_order client r last (TakesTurn number notes ∷ acts) m = made_order client r last acts m
+
+-- ---- whose they are
+pub theirs_with : (count : ℕ) (order : List DeskStep) (t : DeskStep) → AreOfClients count order → IsOfClients count (client_of t) → AreOfClients count (order ++ t ∷ [])
+theirs_with count [] t all one = (one, tt)
+theirs_with count (s ∷ order) t all one = (all.0, theirs_with count order t all.1 one)
+
+pub made_theirs : (count client : ℕ) (r last : DeskRun) (acts : List Act) → 1 ≤ client → client ≤ count → AreOfClients count r.order → MadeAtOnce client r acts last → AreOfClients count last.order
+made_theirs count client r last [] low high all m = subst (λ (q : DeskRun). AreOfClients count q.order) (sym m) all
+made_theirs count client r last (Makes t told ∷ acts) low high all m =
+    made_theirs count client (with_step r t) last acts low high (theirs_with count r.order t all (subst (IsOfClients count) (sym m.0) (low, high))) m.1.1
+made_theirs count client r last (Noted n ∷ acts) low high all m = made_theirs count client r last acts low high all m
+made_theirs count client r last (Fails t name ∷ acts) low high all m = made_theirs count client r last acts low high all m.1.1
+made_theirs count client r last (Begins tx ∷ acts) low high all m = made_theirs count client r last acts low high all m
+made_theirs count client r last (TakesTurn number notes ∷ acts) low high all m = made_theirs count client r last acts low high all m
 
 -- ---- faults
 owned_calm : (client : ℕ) (t : DeskStep) → client_of t ≡ Some client → is_fault t ≡ false

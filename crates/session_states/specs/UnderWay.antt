@@ -10,7 +10,7 @@
 --     is_doubted            a transaction ended in doubt
 --     HasFaults             the host is faulted exactly where one did, and nothing runs then
 --     IsUnderWay            all of it
-use Rattle.std.specs.Prelude.{◌≡◌, ℕ, ◌+◌, ◌≤◌, Bool, true, List, [], ◌∷◌, ◌++◌, map, Option, Some, None, ⊤}
+use Rattle.std.specs.Prelude.{◌≡◌, ℕ, ◌+◌, ◌≤◌, Bool, true, List, [], ◌∷◌, ◌++◌, length, map, Option, Some, None, ⊤}
 use Rattle.std.specs.List.{list_any, AllByRecursion}
 use Rattle.std.specs.List.Sorted.{IsPermutation}
 use Rattle.idb_desk.specs.declared.steps.DeskStep.{DeskStep}
@@ -27,7 +27,7 @@ use Rattle.client_machine.specs.Answering.{Agrees}
 use Rattle.client_machine.specs.ClientStates.{fresh_client}
 use Rattle.client_machine.specs.ClientSteps.{ClientRuns}
 use Rattle.client_ties.specs.Unfinished.{unfinished_of, AreDrawn}
-use Rattle.legal_sessions.specs.Histories.{ShowsItems}
+use Rattle.legal_sessions.specs.Histories.{AreOfClients, ShowsItems}
 use Rattle.legal_sessions.specs.SerialResults.{number_of_entry}
 use Rattle.legal_sessions.specs.Legal.{is_fault, is_in_doubt, DoubtsFit, records_logged, records_in_doubt, commits_at}
 use Rattle.session_states.specs.Sessions.{SeatNow, SessionNow}
@@ -103,6 +103,7 @@ pub record IsInStep (session : ScriptSession) (opening : Items) (now : SessionNo
   pub entries : List (FinishEntry Script Note)
   pub shows : ShowsItems now.run.opening opening
   pub desk : IsDeskRun now.run
+  pub theirs : AreOfClients (length session.clients) now.run.order
   pub seats : AreSeats 0 now.run waiting session.clients now.seats acts
   pub begun : HasBegun now.run acts running done waiting
   pub finished : HasFinished opening now acts done entries
