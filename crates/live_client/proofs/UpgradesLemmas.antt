@@ -1,8 +1,9 @@
 -- Upgrades whose bodies have run, and their runs.
 --     ready_so, started_as              an upgrade as its body left it: it can run, and it is as it starts
 --     parts_same                        the upgrade of a body that was taken apart
---     runs_same, goes_same, into_from   a run of it
-use Rattle.std.proofs.Common.{◌≡◌, ℕ, List, [], Option, Some, None, refl, sym, ◌∙◌, ap, subst}
+--     no_turn, one_more, ends_so, into_from   a run of it
+use Rattle.std.proofs.Common.{◌≡◌, ◌≢◌, ℕ, ◌+◌, List, [], ◌++◌, Option, Some, None, refl, sym, ◌∙◌, ap, subst}
+use Rattle.std.proofs.lemmas.List.{append-nil, append_assoc}
 use Rattle.std.specs.Prelude.{Bool, true, false, not, ◌&&◌, if◌then◌else◌}
 use Rattle.std.specs.FinMap as finite
 use Rattle.idb_keys.specs.declared.names.Mode.{Mode}
@@ -19,6 +20,7 @@ use Rattle.request_lists.specs.Fronts.{Front, new_front, is_upgrade_mode, is_fin
 use Rattle.request_lists.specs.Placing.{Becomes, aborted_by, after_rest, after_throw}
 use Rattle.request_lists.proofs.Laws.{becomes_again}
 use Rattle.list_machine.specs.declared.steps.Step.{Step}
+use Rattle.list_machine.specs.declared.steps.Step.TheVariants as steps
 use Rattle.list_machine.specs.States.{State, fresh_state, opening_changes}
 use Rattle.list_machine.specs.Noting.{IsRaised}
 use Rattle.list_machine.specs.Seeing.{state_map}
@@ -26,10 +28,11 @@ use Rattle.machine_laws.specs.Keeping.{Shows}
 use Rattle.machine_laws.proofs.Laws.{scope_made}
 use Rattle.live_stores.specs.Live.{LiveData, database_at, live_from}
 use Rattle.tx_courses.specs.Courses.{CourseData, state_with, course_opened}
-use Rattle.live_tx.specs.Live.{LiveState, IsReadyState, RunsToEnd, GoesOnInto}
+use Rattle.list_machine.specs.Machine.{Turn, GoesOn, Begins, Goes}
+use Rattle.live_tx.specs.Live.{LiveState, IsReadyState, RunsToEnd}
 use Rattle.live_client.specs.Plans.{Plan, asked_all, same_plan, PlanReacts, PlanWrites}
 use Rattle.live_client.specs.Bodies.{BodyData, IsBegun, as_left}
-use Rattle.live_client.specs.Upgrades.{IsRunOf, upgrade_state, begun_upgrade, started_upgrade}
+use Rattle.live_client.specs.Upgrades.{TurnsOn, NoTurn, OneMore, GoesFor, IsRunOf, upgrade_state, begun_upgrade, started_upgrade}
 use Rattle.live_client.proofs.PlansLemmas.{front_same}
 
 -- ---- modes
@@ -122,16 +125,32 @@ parts_same body schema front requests threw schemas fronts =
 state_same : (state : State Plan) → state_map same_plan state ≡ state
 state_same state = ap (λ f. record state { front = f }) (front_same state.front)
 
-module _ (old new : State Plan) (before after : List Event) where
-  pub runs_same : (step : Step) → RunsToEnd PlanReacts PlanWrites (state_map same_plan old) step (state_map same_plan new) before after → RunsToEnd PlanReacts PlanWrites old step new before after
-  runs_same step r =
-      subst (λ s. RunsToEnd PlanReacts PlanWrites s step new before after) (state_same old)
-      (subst (λ s. RunsToEnd PlanReacts PlanWrites (state_map same_plan old) step s before after) (state_same new) r)
+turn_same : (mid new : State Plan) (step : Step) (lines : List Event) → Turn PlanReacts PlanWrites (state_map same_plan mid) step (state_map same_plan new) lines → Turn PlanReacts PlanWrites mid step new lines
+turn_same mid new step lines t =
+    subst (λ s. Turn PlanReacts PlanWrites s step new lines) (state_same mid)
+    (subst (λ s. Turn PlanReacts PlanWrites (state_map same_plan mid) step s lines) (state_same new) t)
 
-  pub goes_same : GoesOnInto PlanReacts PlanWrites (state_map same_plan old) (state_map same_plan new) before after → GoesOnInto PlanReacts PlanWrites old new before after
-  goes_same r =
-      subst (λ s. GoesOnInto PlanReacts PlanWrites s new before after) (state_same old)
-      (subst (λ s. GoesOnInto PlanReacts PlanWrites (state_map same_plan old) s before after) (state_same new) r)
+goes_on : (old : State Plan) (turns : ℕ) (new : State Plan) (lines : List Event) → TurnsOn old turns new lines → GoesOn PlanReacts PlanWrites old new lines
+goes_on old turns new lines NoTurn = Begins
+goes_on old turns new lines (OneMore before mid last first rest goes turn) = Goes mid last first rest (goes_on old before mid first goes) turn
+
+pub no_turn : (old : State Plan) (before : List Event) → GoesFor 0 old old before before
+no_turn old before = record { lines = []; goes = NoTurn; added = sym (append-nil before) }
+
+module _ (turns : ℕ) (old mid new : State Plan) (before between after : List Event) (g : GoesFor turns old mid before between) where
+  pub one_more : ((ls : List Event) × Turn PlanReacts PlanWrites (state_map same_plan mid) steps.Did (state_map same_plan new) ls × (after ≡ between ++ ls)) → GoesFor (turns + 1) old new before after
+  one_more t = record {
+    lines = g.lines ++ t.0;
+    goes = OneMore turns mid new g.lines t.0 g.goes (turn_same mid new steps.Did t.0 t.1);
+    added = t.2 ∙ ap (λ ls. ls ++ t.0) g.added ∙ append_assoc before g.lines t.0;
+  }
+
+  pub ends_so : (step : Step) → step ≢ steps.Did → ((ls : List Event) × Turn PlanReacts PlanWrites (state_map same_plan mid) step (state_map same_plan new) ls × (after ≡ between ++ ls)) → RunsToEnd PlanReacts PlanWrites old step new before after
+  ends_so step is t = record {
+    lines = g.lines ++ t.0;
+    runs = record { mid = mid; first = g.lines; rest = t.0; goes = goes_on old turns mid g.lines g.goes; ends = turn_same mid new step t.0 t.1; is_end = is; all_lines = refl };
+    added = t.2 ∙ ap (λ ls. ls ++ t.0) g.added ∙ append_assoc before g.lines t.0;
+  }
 
 pub into_from : (live : LiveState Plan) (state new : State Plan) (step : Step) (before after : List Event) → live ≡ started_upgrade state → IsRunOf live.state step new before after → IsRunOf state step new before after
 into_from live state new step before after is r = subst (λ (l : LiveState Plan). IsRunOf l.state step new before after) is r

@@ -14,7 +14,7 @@ use idb_keys::{Durability, Mode};
 use index_tables::Tables;
 use list_machine::Step;
 use live_stores::{LiveStores, Stores};
-use live_tx::{LiveTx, live_laws, run};
+use live_tx::{LiveTx, live_laws};
 use request_lists::TxFront;
 use std::alloc::Global;
 use tx_courses::{Course, opening_changes};
@@ -69,22 +69,25 @@ pub(crate) fn start<T: Tables>(
     Ok(live)
 }
 
-/// Runs it until no entry is left or it has aborted; `Did` only where as many turns as a number counts were not enough.
+/// Runs it until no entry is left or it has aborted; `Did` only where 2^64 - 1 turns were not enough.
 pub(crate) fn run_to_end<T: Tables>(
     live: &mut LiveTx<T, Planned>,
     notes: &mut Events,
 ) -> Result<Step, NoMemory>
     ensures { IfOk result (λ step. IsRunOf live.old.state step live.new.state notes.old notes.new) }
 {
-    match run(live, u64::MAX, notes) {
-        Step::Did => Ok(Step::Did),
-        Step::Idle => Ok(Step::Idle),
-        Step::Aborted { error } => Ok(Step::Aborted { error }),
-        Step::NoMemory => Err(NoMemory),
+    for turn in 0..u64::MAX {
+        match live.step(notes) {
+            Step::Did => {}
+            Step::Idle => return Ok(Step::Idle),
+            Step::Aborted { error } => return Ok(Step::Aborted { error }),
+            Step::NoMemory => return Err(NoMemory),
+        }
     }
+    Ok(Step::Did)
 }
 
-/// The small client: such an upgrade, run until it ends, or for as many turns as a number counts. What it answers is a run of the list
+/// The small client: such an upgrade, run until it ends, or for 2^64 - 1 turns. What it answers is a run of the list
 /// machine for these handlers from the state that the body left: its last step, the state behind it, and what the handlers wrote.
 pub(crate) fn run_upgrade<T: Tables>(
     alloc: Global,

@@ -6,6 +6,14 @@
 mod bodies;
 mod calls;
 mod clients;
+#[cfg(test)]
+mod many_tests;
 mod plans;
+#[cfg(test)]
+mod saying;
+#[cfg(test)]
+mod steps;
+#[cfg(test)]
+mod tests;
 
 fn main() {}
