@@ -3,7 +3,8 @@
 --     own_told              a client's own steps of a run of the desk, each with what was told
 --     made_in               the steps among its acts, in the same form
 --     part_run              the run up to a place
---     FailsAt, AllFailed    behind so many of its own steps the desk doesn't take a step;  each act that failed did so
+--     FailsAt, AllFailed    behind so many of its own steps the desk doesn't take a step;  each act that failed did so, none before an
+--                           earlier one
 --     Agrees                a client's acts are those of its steps in the run
 --     MadeAtOnce            one driver makes the steps of acts behind a run, one after the other
 use Rattle.std.specs.Prelude.{◌≡◌, ℕ, ◌+◌, ◌≤◌, Bool, false, List, [], ◌∷◌, length, take, filter, Option, Some, None, option_map, ⊤}
@@ -68,18 +69,19 @@ pub record FailsAt (client : ℕ) (r : DeskRun) (n : ℕ) (t : DeskStep) (name :
   pub not_taken : is_allowed (desk_run (part_run r place)) t ≡ false
   pub named : name ≡ refusal_of_step (desk_run (part_run r place)) t
 
-abbrev pub AllFailed : ℕ → DeskRun → ℕ → List Act → Type 0
-AllFailed client r n [] = ⊤
-AllFailed client r n (Makes t told ∷ acts) = AllFailed client r (n + 1) acts
-AllFailed client r n (Fails t name ∷ acts) = FailsAt client r n t name × AllFailed client r n acts
-AllFailed client r n (Noted note ∷ acts) = AllFailed client r n acts
-AllFailed client r n (Begins tx ∷ acts) = AllFailed client r n acts
-AllFailed client r n (TakesTurn number notes ∷ acts) = AllFailed client r n acts
+-- from this place on
+abbrev pub AllFailed : ℕ → DeskRun → (least n : ℕ) → List Act → Type 0
+AllFailed client r least n [] = ⊤
+AllFailed client r least n (Makes t told ∷ acts) = AllFailed client r least (n + 1) acts
+AllFailed client r least n (Fails t name ∷ acts) = (f : FailsAt client r n t name) × ((least ≤ f.place) × AllFailed client r f.place n acts)
+AllFailed client r least n (Noted note ∷ acts) = AllFailed client r least n acts
+AllFailed client r least n (Begins tx ∷ acts) = AllFailed client r least n acts
+AllFailed client r least n (TakesTurn number notes ∷ acts) = AllFailed client r least n acts
 
 -- ---- both
 pub record Agrees (client : ℕ) (r : DeskRun) (acts : List Act) : Type 0 where
   pub steps : made_in acts ≡ own_told client r
-  pub failed : AllFailed client r 0 acts
+  pub failed : AllFailed client r 0 0 acts
 
 -- ---- with one driver
 abbrev pub MadeAtOnce : ℕ → DeskRun → List Act → DeskRun → Type 0

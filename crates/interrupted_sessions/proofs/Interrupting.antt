@@ -34,12 +34,13 @@ use Rattle.script_statements.specs.declared.script.ScriptSession.{ScriptSession}
 use Rattle.script_runs.specs.declared.notes.Note.{Note}
 use Rattle.script_handlers.specs.Handling.{Script, ScriptReacts, ScriptWrites}
 use Rattle.legal_sessions.specs.Histories.{AreClientRuns}
-use Rattle.legal_sessions.specs.SerialResults.{BegunTx, begun_in, begun_by, AreEntriesOf}
-use Rattle.legal_sessions.specs.Legal.{is_fault, is_in_doubt, DoubtsFit, in_doubt_of, EndsSo, IsLegalReport, may_write, record_of_entry, records_logged, records_in_doubt, commit_at, commits_at}
+use Rattle.legal_sessions.specs.SerialResults.{BegunTx, begun_in, begun_by, number_of_entry, AreEntriesOf}
+use Rattle.legal_sessions.specs.Legal.{FinishFits, is_fault, is_in_doubt, DoubtsFit, in_doubt_of, EndsSo, IsLegalReport, may_write, record_of_entry, records_logged, records_in_doubt, commit_at, commits_at}
 use Rattle.session_states.specs.Sessions.{SeatNow, SessionNow}
 use Rattle.session_states.specs.Telling.{ToldTx, BegunAt, begun_at, begun_from, acts_where, acts_at, shown_begun, as_begun, RunningTx}
 use Rattle.session_states.specs.UnderWay.{AreSeats, IsWaiting, IsFirstWaiting, AreFinishedAs, is_doubted, HasFaults, IsUnderWay}
 use Rattle.session_states.specs.Moves.{entry_ran}
+use Rattle.session_states.proofs.Laws.{fits_last}
 use Rattle.interrupted_sessions.specs.Interrupted.{AreClientsSoFar, RanWhole, AreLast, HasCommits}
 
 abbrev Entry : Type 0
@@ -143,7 +144,7 @@ serial_with items [] e s runs = (runs, tt)
 serial_with items (f ∷ es) e s runs = (s.0, serial_with (applied_all items (changes_kept f)) es e s.1 runs)
 
 abbrev fit_where : Bool → Entry → List Entry → Type 0
-fit_where b e es = MatchBool b (AllByRecursion (λ f. (did_commit f.outcome ≡ false) × (is_in_doubt f.outcome ≡ false)) es) ((e.by_host ≡ false) × DoubtsFit es)
+fit_where b e es = MatchBool b ((may_write e.body ≡ true) × AllByRecursion (λ f. (did_commit f.outcome ≡ false) × (is_in_doubt f.outcome ≡ false)) es) ((e.by_host ≡ false) × DoubtsFit es)
 
 first_sure : (f : Entry) (es : List Entry) → list_any is_doubted (f ∷ es) ≡ false → (is_in_doubt f.outcome ≡ false) × (list_any is_doubted es ≡ false)
 first_sure f es none = neither (is_in_doubt f.outcome) (list_any is_doubted es) none
@@ -153,15 +154,15 @@ first_sure f es none = neither (is_in_doubt f.outcome) (list_any is_doubted es) 
     neither false b e = (refl, e)
 
 -- where none is in doubt the host ended none
-doubts_with : (es : List Entry) (e : Entry) → list_any is_doubted es ≡ false → e.by_host ≡ false → DoubtsFit es → DoubtsFit (es ++ e ∷ [])
-doubts_with [] e none own fit = elim (cases_Bool (is_in_doubt e.outcome)) [
-  | inl is ↦ subst (λ b. fit_where b e []) (sym is) tt
+doubts_with : (es : List Entry) (e : Entry) → list_any is_doubted es ≡ false → e.by_host ≡ false → (is_in_doubt e.outcome ≡ true → may_write e.body ≡ true) → DoubtsFit es → DoubtsFit (es ++ e ∷ [])
+doubts_with [] e none own writes fit = elim (cases_Bool (is_in_doubt e.outcome)) [
+  | inl is ↦ subst (λ b. fit_where b e []) (sym is) (writes is, tt)
   | inr out ↦ subst (λ b. fit_where b e []) (sym out) (own, tt)
 ]
-doubts_with (f ∷ es) e none own fit =
+doubts_with (f ∷ es) e none own writes fit =
     let n = first_sure f es none in
     let h : (f.by_host ≡ false) × DoubtsFit es = subst (λ b. fit_where b f es) n.0 fit in
-    subst (λ b. fit_where b f (es ++ e ∷ [])) (sym n.0) (h.0, doubts_with es e n.1 own h.1)
+    subst (λ b. fit_where b f (es ++ e ∷ [])) (sym n.0) (h.0, doubts_with es e n.1 own writes h.1)
 
 running_sure : (order : List DeskStep) (t : RunningTx) (es : List Entry) → HasFaults order (Some t) es → list_any is_doubted es ≡ false
 running_sure order t es f = elim (cases_Bool (list_any is_fault order)) [
@@ -197,10 +198,10 @@ module _ (session : ScriptSession) (opening : Items) (now : SessionNow) (running
       (subst (λ bs. IsPermutation bs (begun (u.done ++ u.waiting))) (begun_told [] u.acts) (IsPermutation-map (begun_as u.acts) (begun_from 0 u.acts) (map as_begun (u.done ++ u.waiting)) u.begun.all))
 
   -- with the entries behind those of transactions that finished
-  with_last : (last : List Entry) → RiseFrom 1 (way.in_step.entries ++ last) → AreLast now.run.order (begun way.in_step.waiting) last → DoubtsFit (way.in_step.entries ++ last)
+  with_last : (last : List Entry) → RiseFrom 1 (way.in_step.entries ++ last) → FinishFits now.run.order (map number_of_entry (way.in_step.entries ++ last)) → AreLast now.run.order (begun way.in_step.waiting) last → DoubtsFit (way.in_step.entries ++ last)
       → IsSerial ScriptReacts ScriptWrites opening (way.in_step.entries ++ last)
       → HasCommits session opening (commits_at now.run.order (records_logged (way.in_step.entries ++ last))) (commits_at now.run.order (records_in_doubt (way.in_step.entries ++ last)))
-  with_last last rise ran doubts serial =
+  with_last last rise fits ran doubts serial =
       let u = way.in_step in
       record {
         history = record { schemas = now.run.opening; order = now.run.order; acts = u.acts; finish = u.entries };
@@ -219,8 +220,9 @@ module _ (session : ScriptSession) (opening : Items) (now : SessionNow) (running
             serial = subst (IsSerial ScriptReacts ScriptWrites opening) (sym (numbers_placed 1 (u.entries ++ last) rise)) serial;
           };
           in_order = in_order 1 (u.entries ++ last) rise;
+          finish_fits = fits;
           doubts = doubts;
-          faults = record { doubts = way.faults.doubts; marked = way.faults.marked };
+          faults = record { doubts = way.faults.doubts; behind = u.behind; marked = way.faults.marked };
         };
         logged = refl;
         in_doubt = refl;
@@ -231,7 +233,8 @@ module _ (session : ScriptSession) (opening : Items) (now : SessionNow) (running
       let u = way.in_step in
       let none : u.entries ++ [] ≡ u.entries = append-nil u.entries in
       let rise = rise_from now.run.order u.acts 1 (desk_run now.run).board.scopes.next u.done u.waiting u.entries u.finished.each u.begun.numbers in
-      let h = with_last [] (subst (RiseFrom 1) (sym none) rise) tt (subst DoubtsFit (sym none) way.faults.doubts) (subst (IsSerial ScriptReacts ScriptWrites opening) (sym none) u.finished.serial) in
+      let fits = subst (λ es. FinishFits now.run.order (map number_of_entry es)) (sym none) (subst (FinishFits now.run.order) u.finished.finish u.finish_order.fits) in
+      let h = with_last [] (subst (RiseFrom 1) (sym none) rise) fits tt (subst DoubtsFit (sym none) way.faults.doubts) (subst (IsSerial ScriptReacts ScriptWrites opening) (sym none) u.finished.serial) in
       subst (λ cs. HasCommits session opening cs now.doubts) (ap (λ es. commits_at now.run.order (records_logged es)) none ∙ sym u.finished.commits)
       (subst (λ cs. HasCommits session opening (commits_at now.run.order (records_logged (u.entries ++ []))) cs) (ap (λ es. commits_at now.run.order (records_in_doubt es)) none ∙ sym u.finished.doubts) h)
 
@@ -256,9 +259,9 @@ module _ (session : ScriptSession) (opening : Items) (now : SessionNow) (t : Run
         stays = ap (λ (x : ToldTx). x.left) waits.told;
       }
 
-  pub interrupted_at_end : RunsOn ScriptReacts ScriptWrites (part_of (scope_of_body t.body) now.items) t.body t.turns changes kept false outcome
+  pub interrupted_at_end : RunsOn ScriptReacts ScriptWrites (part_of (scope_of_body t.body) now.items) t.body t.turns changes kept false outcome → (is_in_doubt outcome ≡ true → may_write t.body ≡ true)
       → HasCommits session opening (now.commits ++ commits_at now.run.order (records_logged (entry ∷ []))) (now.doubts ++ commits_at now.run.order (records_in_doubt (entry ∷ [])))
-  interrupted_at_end runs = by_waiting way.in_step.waiting refl
+  interrupted_at_end runs writes = by_waiting way.in_step.waiting refl
     where
       by_waiting : (ws : List BegunAt) → way.in_step.waiting ≡ ws → HasCommits session opening (now.commits ++ commits_at now.run.order (records_logged (entry ∷ []))) (now.doubts ++ commits_at now.run.order (records_in_doubt (entry ∷ [])))
       by_waiting [] are = absurd (subst (λ ws. IsFirstWaiting (Some t) ws) are way.in_step.begun.first)
@@ -270,9 +273,10 @@ module _ (session : ScriptSession) (opening : Items) (now : SessionNow) (t : Run
           let rise = rise_with now.run.order u.acts 1 (desk_run now.run).board.scopes.next u.done b rest u.entries entry u.finished.each numbers (sym first) in
           let last : AreLast now.run.order (map (begun_as u.acts) (map as_begun u.waiting)) (entry ∷ []) =
           subst (λ ws. AreLast now.run.order (map (begun_as u.acts) (map as_begun ws)) (entry ∷ [])) (sym are) (ran_whole b waits first) in
-          let doubts = doubts_with u.entries entry (running_sure now.run.order t u.entries way.faults) refl way.faults.doubts in
+          let doubts = doubts_with u.entries entry (running_sure now.run.order t u.entries way.faults) refl writes way.faults.doubts in
           let serial = serial_with opening u.entries entry u.finished.serial (subst (λ (i : Items). RunsOn ScriptReacts ScriptWrites (part_of (scope_of_body t.body) i) t.body t.turns changes kept false outcome) u.finished.items runs) in
-          let h = with_last session opening now (Some t) way (entry ∷ []) rise last doubts serial in
+          let fits = subst (FinishFits now.run.order) (ap (λ ns. ns ++ t.number ∷ []) u.finished.finish ∙ sym (map-append number_of_entry u.entries (entry ∷ []))) (fits_last now.run.order now.finish u.finish_order t.number) in
+          let h = with_last session opening now (Some t) way (entry ∷ []) rise fits last doubts serial in
           subst (λ cs. HasCommits session opening cs (now.doubts ++ commits_at now.run.order (records_in_doubt (entry ∷ []))))
           (told_with now.run.order (λ e. did_commit e.outcome && may_write e.body) u.entries entry ∙ ap (λ cs. cs ++ commits_at now.run.order (records_logged (entry ∷ []))) (sym u.finished.commits))
           (subst (λ cs. HasCommits session opening (commits_at now.run.order (records_logged (u.entries ++ entry ∷ []))) cs)
@@ -296,7 +300,7 @@ IsAtMostOne (x ∷ xs) = xs ≡ []
 one_doubted : (es : List Entry) → DoubtsFit es → IsAtMostOne (in_doubt_of es)
 one_doubted [] fit = tt
 one_doubted (e ∷ es) fit = elim (cases_Bool (is_in_doubt e.outcome)) [
-  | inl is ↦ subst (λ b. IsAtMostOne (if b then e ∷ in_doubt_of es else in_doubt_of es)) (sym is) (none_doubted es (subst (λ b. fit_where b e es) is fit))
+  | inl is ↦ subst (λ b. IsAtMostOne (if b then e ∷ in_doubt_of es else in_doubt_of es)) (sym is) (none_doubted es (subst (λ b. fit_where b e es) is fit).1)
   | inr out ↦ subst (λ b. IsAtMostOne (if b then e ∷ in_doubt_of es else in_doubt_of es)) (sym out) (one_doubted es (subst (λ b. fit_where b e es) out fit).1)
 ]
 
@@ -335,6 +339,7 @@ interrupted_whole session number opening report commits log_end closing l =
           serial = subst (λ es. IsSerial ScriptReacts ScriptWrites opening (by_number es)) (sym none) legal.serial.serial;
         };
         in_order = subst IsInOrder (sym none) legal.in_order;
+        finish_fits = subst (λ es. FinishFits h.order (map number_of_entry es)) (sym none) legal.finish_fits;
         doubts = subst DoubtsFit (sym none) legal.faults.doubts;
         faults = legal.faults;
       };

@@ -6,7 +6,7 @@
 --     IsLegalSoFar          a session that had done so much, by its clients' steps and the host's alone
 --     HasCommits            the log was told the commits of these, and those in doubt
 --     WasInterrupted        no commit was made, or there is such a session whose commits these are
-use Rattle.std.specs.Prelude.{◌≡◌, ◌⊎◌, ℕ, ◌+◌, true, List, [], ◌∷◌, ◌++◌, length, None, ⊤}
+use Rattle.std.specs.Prelude.{◌≡◌, ◌⊎◌, ℕ, ◌+◌, true, List, [], ◌∷◌, ◌++◌, length, map, None, ⊤}
 use Rattle.std.specs.List.Sorted.{IsPermutation}
 use Rattle.idb_desk.specs.declared.steps.DeskStep.{DeskStep}
 use Rattle.idb_desk.specs.Steps.{DeskRun, IsDeskRun}
@@ -24,8 +24,8 @@ use Rattle.script_statements.specs.declared.script.ScriptSession.{ScriptSession}
 use Rattle.script_runs.specs.declared.notes.Note.{Note}
 use Rattle.script_handlers.specs.Handling.{Script, ScriptReacts, ScriptWrites}
 use Rattle.legal_sessions.specs.Histories.{SessionHistory, desk_of, AreOfClients, ShowsItems}
-use Rattle.legal_sessions.specs.SerialResults.{BegunTx, begun_by, leaving_of, is_started, AreEntriesOf}
-use Rattle.legal_sessions.specs.Legal.{DoubtsFit, FaultsFit, records_logged, records_in_doubt, commits_at}
+use Rattle.legal_sessions.specs.SerialResults.{BegunTx, begun_by, number_of_entry, leaving_of, is_started, AreEntriesOf}
+use Rattle.legal_sessions.specs.Legal.{FinishFits, DoubtsFit, FaultsFit, records_logged, records_in_doubt, commits_at}
 
 -- ---- the clients
 pub record IsClientSoFar (client : Client) (number : ℕ) (r : DeskRun) (acts : List Act) : Type 0 where
@@ -73,6 +73,7 @@ pub record IsLegalSoFar (session : ScriptSession) (opening : Items) (h : Session
   pub theirs : AreOfClients (length session.clients) h.order
   pub serial : HasSerialSoFar opening h last
   pub in_order : IsInOrder (h.finish ++ last)
+  pub finish_fits : FinishFits h.order (map number_of_entry (h.finish ++ last))
   pub doubts : DoubtsFit (h.finish ++ last)
   pub faults : FaultsFit h
 

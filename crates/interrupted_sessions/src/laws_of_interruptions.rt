@@ -1,5 +1,5 @@
 // The laws of interrupted sessions.
-ghost use Rattle.std.specs.Prelude.{◌≡◌, ℕ, List, [], ◌∷◌, ◌++◌, Option, Some, false};
+ghost use Rattle.std.specs.Prelude.{◌≡◌, ℕ, List, [], ◌∷◌, ◌++◌, Option, Some, false, true};
 ghost use Rattle.idb_schema.specs.Schemas.{SchemaData};
 ghost use Rattle.idb_calls.specs.Deltas.{DeltaTree};
 ghost use Rattle.idb_calls.specs.declared.traces.Outcome.{Outcome};
@@ -12,7 +12,7 @@ ghost use Rattle.client_machine.specs.FinishEntries.{scope_of_body};
 ghost use Rattle.client_machine.specs.SerialRuns.{RunsOn};
 ghost use Rattle.script_statements.specs.declared.script.ScriptSession.{ScriptSession};
 ghost use Rattle.script_handlers.specs.Handling.{ScriptReacts, ScriptWrites};
-ghost use Rattle.legal_sessions.specs.Legal.{IsLegalReport, records_logged, records_in_doubt, commits_at};
+ghost use Rattle.legal_sessions.specs.Legal.{is_in_doubt, may_write, IsLegalReport, records_logged, records_in_doubt, commits_at};
 ghost use Rattle.session_states.specs.Sessions.{SessionNow};
 ghost use Rattle.session_states.specs.Telling.{RunningTx};
 ghost use Rattle.session_states.specs.UnderWay.{IsUnderWay};
@@ -20,7 +20,7 @@ ghost use Rattle.session_states.specs.Moves.{entry_ran};
 ghost use Rattle.interrupted_sessions.specs.Interrupted.{HasCommits};
 
 /// The laws of interrupted sessions. Wherever a session under way is interrupted, its commits are those of so much of a legal session;
-/// so they are with that of the transaction that runs, once it has run whole; and so they are of a session that came to its end.
+/// so they are with that of the transaction that runs, once it has run whole, in doubt only where it may write; and so they are of a session that came to its end.
 pub fn interruption_laws()
     ensures between { (session : ScriptSession) (opening : Items) (now : SessionNow)
         (running : Option RunningTx)
@@ -30,6 +30,7 @@ pub fn interruption_laws()
         → IsUnderWay session opening now (Some t)
         → RunsOn ScriptReacts ScriptWrites (part_of (scope_of_body t.body) now.items)
         t.body t.turns changes kept false outcome
+        → (is_in_doubt outcome ≡ true → may_write t.body ≡ true)
         → HasCommits session opening
         (now.commits ++ commits_at now.run.order (records_logged (entry_ran t changes kept outcome ∷ [])))
         (now.doubts ++ commits_at now.run.order (records_in_doubt (entry_ran t changes kept outcome ∷ []))) }

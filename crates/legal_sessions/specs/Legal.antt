@@ -1,4 +1,9 @@
 -- What a session may report.
+--     leaves_before         a transaction left before another was started
+--     is_listed, is_listed_before   a number stands in a list;  and another behind it
+--     FinishFits            where it did, and both finished, it finished before that one
+--     leaves_behind_fault   the host was faulted before the transaction left
+--     may_write             it doesn't only read
 --     FaultsFit             a commit in doubt, and what follows it, only where the host is faulted
 --     IsLegal               client runs, a desk run of nobody else's steps, serial results, and the order in which transactions finished
 --     items_at_end          the databases that the session leaves
@@ -11,7 +16,7 @@
 --     report_end            as the report says it
 --     IsReportOf            a report says what a legal session did
 --     IsLegalReport         there is such a session, with these commits and this end of its log
-use Rattle.std.specs.Prelude.{◌≡◌, ◌⊎◌, ℕ, Bool, true, false, not, ◌&&◌, List, [], ◌∷◌, length, map, filter, ⊤}
+use Rattle.std.specs.Prelude.{◌≡◌, ◌⊎◌, ℕ, Bool, true, false, not, ◌==◌, ◌&&◌, ◌||◌, List, [], ◌∷◌, length, map, filter, if◌then◌else◌, ⊤}
 use Rattle.std.specs.Bool.{MatchBool}
 use Rattle.std.specs.List.{list_any, AllByRecursion}
 use Rattle.std.specs.FinMap as finite
@@ -40,7 +45,22 @@ use Rattle.script_runs.specs.declared.notes.Note.{Note}
 use Rattle.script_handlers.specs.Handling.{Script}
 use Rattle.client_machine.specs.Acts.{lines_of_acts}
 use Rattle.legal_sessions.specs.Histories.{SessionHistory, desk_of, AreClientRuns, AreOfClients, ShowsItems}
-use Rattle.legal_sessions.specs.SerialResults.{HasSerialResults, number_of_entry}
+use Rattle.legal_sessions.specs.SerialResults.{HasSerialResults, number_of_entry, is_started, is_leaving_of, has_left}
+
+-- ---- the order in which transactions finished
+abbrev pub leaves_before : List DeskStep → (first second : ℕ) → Bool
+leaves_before [] first second = false
+leaves_before (t ∷ ts) first second = if is_leaving_of first t then is_started ts second else leaves_before ts first second
+
+abbrev pub is_listed : ℕ → List ℕ → Bool
+is_listed number numbers = list_any (λ n. n == number) numbers
+
+abbrev pub is_listed_before : List ℕ → (first second : ℕ) → Bool
+is_listed_before [] first second = false
+is_listed_before (n ∷ ns) first second = if n == first then is_listed second ns else is_listed_before ns first second
+
+abbrev pub FinishFits : List DeskStep → List ℕ → Type 0
+FinishFits order finish = (first second : ℕ) → leaves_before order first second ≡ true → is_listed second finish ≡ true → is_listed_before finish first second ≡ true
 
 -- ---- faults
 abbrev pub is_fault : DeskStep → Bool
@@ -51,15 +71,28 @@ abbrev pub is_in_doubt : Outcome → Bool
 is_in_doubt Committed = false
 is_in_doubt (Aborted error doubt) = doubt
 
--- every transaction behind the one in doubt is aborted, and the host ends none before it
+abbrev pub may_write : TxBody Script → Bool
+may_write (Scripted body) = not (is_read_only_mode body.mode)
+may_write (Deletion name) = true
+
+-- one in doubt may write; every transaction behind it is aborted, and the host ends none before it
 abbrev pub DoubtsFit : List (FinishEntry Script Note) → Type 0
 DoubtsFit [] = ⊤
 DoubtsFit (e ∷ es) = MatchBool (is_in_doubt e.outcome)
-    (AllByRecursion (λ f. (did_commit f.outcome ≡ false) × (is_in_doubt f.outcome ≡ false)) es)
+    ((may_write e.body ≡ true) × AllByRecursion (λ f. (did_commit f.outcome ≡ false) × (is_in_doubt f.outcome ≡ false)) es)
     ((e.by_host ≡ false) × DoubtsFit es)
+
+abbrev pub leaves_behind_fault : List DeskStep → ℕ → Bool
+leaves_behind_fault [] number = false
+leaves_behind_fault (t ∷ ts) number = if is_fault t then has_left ts number else not (is_leaving_of number t) && leaves_behind_fault ts number
+
+-- one in doubt, and one that the host ended, left a host that was faulted
+abbrev pub FitsFault : List DeskStep → FinishEntry Script Note → Type 0
+FitsFault order e = (is_in_doubt e.outcome || e.by_host) ≡ true → leaves_behind_fault order e.number ≡ true
 
 pub record FaultsFit (h : SessionHistory) : Type 0 where
   pub doubts : DoubtsFit h.finish
+  pub behind : AllByRecursion (FitsFault h.order) h.finish
   pub marked : list_any is_fault h.order ≡ list_any (λ e. is_in_doubt e.outcome) h.finish
 
 -- ---- legal
@@ -70,6 +103,7 @@ pub record IsLegal (session : ScriptSession) (opening : Items) (h : SessionHisto
   pub theirs : AreOfClients (length session.clients) h.order
   pub serial : HasSerialResults opening h
   pub in_order : IsInOrder h.finish
+  pub finish_fits : FinishFits h.order (map number_of_entry h.finish)
   pub faults : FaultsFit h
 
 abbrev pub items_at_end : Items → SessionHistory → Items
@@ -78,10 +112,6 @@ items_at_end opening h = items_after opening (by_number h.finish)
 -- ---- what is told
 abbrev pub has_of : Name × Database → Has
 has_of e = record { name = e.0; version = e.1.version }
-
-abbrev pub may_write : TxBody Script → Bool
-may_write (Scripted body) = not (is_read_only_mode body.mode)
-may_write (Deletion name) = true
 
 abbrev pub commits_of : List (FinishEntry Script Note) → List (FinishEntry Script Note)
 commits_of finish = filter (λ e. did_commit e.outcome && may_write e.body) finish

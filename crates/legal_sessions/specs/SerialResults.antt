@@ -1,7 +1,8 @@
 -- What became of the transactions of a session is what their runs one by one give.
 --     begun_by              the transactions that began, each with its client's acts
 --     number_of_begun, number_of_entry      their numbers
---     leaving_of, is_started        the outcome with which a transaction left, and the schema that it kept;  whether it was started
+--     leaving_of            the outcome with which a transaction left, and the schema that it kept
+--     is_started, has_left  whether it was started;  whether it left
 --     IsEntryOf, AreEntriesOf       what became of a transaction is told by its client's acts and by the steps
 --     HasSerialResults      all of them
 use Rattle.std.specs.Prelude.{◌≡◌, ℕ, Bool, false, ◌==◌, List, [], ◌∷◌, ◌++◌, map, if◌then◌else◌, Option, Some, None, ⊤}
@@ -56,6 +57,13 @@ is_start_of number _ = false
 
 abbrev pub is_started : List DeskStep → ℕ → Bool
 is_started order number = list_any (is_start_of number) order
+
+abbrev pub is_leaving_of : ℕ → DeskStep → Bool
+is_leaving_of number (step.Leaves client left outcome kept) = left == number
+is_leaving_of number _ = false
+
+abbrev pub has_left : List DeskStep → ℕ → Bool
+has_left order number = list_any (is_leaving_of number) order
 
 -- ---- what became of them
 pub record IsEntryOf (order : List DeskStep) (b : BegunTx) (e : FinishEntry Script Note) : Type 0 where

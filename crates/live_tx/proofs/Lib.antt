@@ -4,5 +4,4 @@ pub mod Turns
 pub mod Ends
 pub mod Stands
 pub mod Steps
-pub mod GoingOn
 pub mod Seen

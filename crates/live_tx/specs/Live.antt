@@ -7,7 +7,7 @@
 --     abort_error           an error from outside counts where the script had not aborted it before
 --     reverted              every store as it was, no change, and nothing waits
 --     AbortsFrom            an abort from outside, by where it stood
---     RunsToEnd, GoesOnInto  a whole run, and turns that go on, with what was added to the notes
+--     RunsToEnd             a whole run, with what was added to the notes
 use Rattle.std.specs.Prelude.{◌≡◌, ℕ, List, [], ◌∷◌, ◌++◌, Option, Some, None, ⊤}
 use Rattle.idb_keys.specs.declared.names.Durability.{Durability}
 use Rattle.idb_keys.specs.declared.names.ErrorName.{ErrorName}
@@ -19,7 +19,7 @@ use Rattle.request_lists.specs.Placing.{aborted_by}
 use Rattle.list_machine.specs.declared.steps.Step.{Step}
 use Rattle.list_machine.specs.declared.steps.Step.TheVariants as steps
 use Rattle.list_machine.specs.States.{State}
-use Rattle.list_machine.specs.Machine.{Reacts, Writes, GoesOn, Runs, number_in, with_waiting}
+use Rattle.list_machine.specs.Machine.{Reacts, Writes, Runs, number_in, with_waiting}
 use Rattle.machine_laws.specs.Keeping.{IsState}
 use Rattle.placed_calls.specs.Fitting.{AreFit}
 use Rattle.handler_calls.specs.Attending.{IsAttended}
@@ -95,9 +95,4 @@ standing_aborted standing.Stuck p error = standing.Stuck
 pub record RunsToEnd {D L : Type 0} (reacts : Reacts D) (writes : Writes D L) (old : State D) (step : Step) (new : State D) (before after : List L) : Type 0 where
   pub lines : List L
   pub runs : Runs reacts writes old step new lines
-  pub added : after ≡ before ++ lines
-
-pub record GoesOnInto {D L : Type 0} (reacts : Reacts D) (writes : Writes D L) (old new : State D) (before after : List L) : Type 0 where
-  pub lines : List L
-  pub goes : GoesOn reacts writes old new lines
   pub added : after ≡ before ++ lines

@@ -10,12 +10,10 @@ mod laws_of_living;
 mod live;
 mod next;
 mod parts;
-mod runs;
 mod standing;
 mod turning;
 
 pub use laws_of_living::live_laws;
 pub use live::LiveTx;
 pub use parts::LiveParts;
-pub use runs::run;
 pub use standing::Standing;

@@ -73,10 +73,10 @@ end_goes law durable number outcome kept old new before after f run sound = reco
 pub doubt_goes : DoubtLaw → FaultLaws → DurableLaw → DurableFaultLaw → (number : ℕ) (old mid new : OfficeState) (before after : List Note) → mid ≡ record old { run = with_step old.run step.Faults } → FinishesInto number outcome_in_doubt None mid before new after → IsDeskRun new.run
     → DoubtLeads number old before new after
 doubt_goes law faults durable faulted number old mid new before after mid_is f run = record {
-  goes = λ t changes done items is ran.
+  goes = λ t changes done items is ran writes.
       subst (λ n. LeadsTo (Some t) None (scene_of old before done items) (scene_of new after (with_finish_of done old.run n false true changes) items)) is
       (doubt_leads law faults durable faulted t changes old new before after done items
-      (subst (λ n. FinishesInto n outcome_in_doubt None (record old { run = with_step old.run step.Faults }) before new after) (sym is) (subst (λ (o : OfficeState). FinishesInto number outcome_in_doubt None o before new after) mid_is f)) run ran);
+      (subst (λ n. FinishesInto n outcome_in_doubt None (record old { run = with_step old.run step.Faults }) before new after) (sym is) (subst (λ (o : OfficeState). FinishesInto number outcome_in_doubt None o before new after) mid_is f)) run ran writes);
 }
 
 -- ---- the host
@@ -139,6 +139,10 @@ left_and : (a b : Bool) → (a && b) ≡ true → a ≡ true
 left_and true b e = refl
 left_and false b e = cc
 
+right_and : (a b : Bool) → (a && b) ≡ true → b ≡ true
+right_and true b e = e
+right_and false b e = cc
+
 module _ (t : RunningTx) (items : Items) (office : OfficeState) (trace : TxTrace) (kept : Option SchemaData) (r : IsRunSo t items office trace kept) where
   pub allowed_so : FinishesLaw → (notes : List Note) (done : DoneNow) (number : ℕ) → t.number ≡ number → StandsOn (Some t) (scene_of office notes done items) → HoldsTx office number → is_allowed (desk_run office.run) (step.Leaves office.client.number number trace.outcome kept) ≡ true
   allowed_so law notes done number is on holds =
@@ -150,6 +154,9 @@ module _ (t : RunningTx) (items : Items) (office : OfficeState) (trace : TxTrace
 
   did : is_commit trace ≡ true → did_commit trace.outcome ≡ true
   did commit = left_and (did_commit trace.outcome) (may_write t.body) (sym r.commit ∙ commit)
+
+  writes : is_commit trace ≡ true → may_write t.body ≡ true
+  writes commit = right_and (did_commit trace.outcome) (may_write t.body) (sym r.commit ∙ commit)
 
   -- by the order in which it ran
   one_commit : commits_at office.run.order (record { number = t.number; deltas = trace.deltas } ∷ []) ≡ commit_of trace ∷ []
@@ -203,7 +210,7 @@ module _ (t : RunningTx) (items : Items) (office : OfficeState) (trace : TxTrace
       subst (λ (d : DoneNow). LeadsTo (Some t) None (scene_of office notes done items) (scene_of new after d left)) (sym last_is)
       (subst (λ (l : Items). LeadsTo (Some t) None (scene_of office notes done items) (scene_of new after (doubted_with_trace trace done) l)) (sym left_is)
       (subst (λ (d : DoneNow). LeadsTo (Some t) None (scene_of office notes done items) (scene_of new after d items)) same
-      (ends.goes t trace.deltas done items is (r.in_doubt (did commit)))))
+      (ends.goes t trace.deltas done items is (r.in_doubt (did commit)) (writes commit))))
 
   -- where its finish is stopped
   told_so : (commits : List Commit) (b : Bool) → is_commit trace ≡ b → commits_with commits trace ≡ commits ++ commits_at office.run.order (records_logged (entry ∷ []))
@@ -212,12 +219,19 @@ module _ (t : RunningTx) (items : Items) (office : OfficeState) (trace : TxTrace
       ap (λ w. if w then commits ++ commit_of trace ∷ [] else commits) commit ∙ sym (append-nil commits)
       ∙ ap (λ b. commits ++ commits_at office.run.order (map record_of_entry (if b then entry ∷ [] else []))) (sym commit ∙ r.commit)
 
+  sure_only : is_in_doubt trace.outcome ≡ true → may_write t.body ≡ true
+  sure_only doubt = absurd (no (sym doubt ∙ r.sure))
+    where
+      no : true ≡ false → ⊥
+      no k = cc
+
   pub stops_standing : (done last : DoneNow) → last ≡ done_with_trace trace done → TellsOf t items office done last
   stops_standing done last is = record {
     changes = trace.deltas;
     kept = kept;
     outcome = trace.outcome;
     ran = r.ran;
+    writes = λ doubt. sure_only doubt;
     commits = ap (λ (d : DoneNow). d.commits) is ∙ told_so done.commits (is_commit trace) refl;
     doubts = ap (λ (d : DoneNow). d.doubts) is ∙ sym (append-nil done.doubts) ∙ ap (λ b. done.doubts ++ commits_at office.run.order (map record_of_entry (if b then entry ∷ [] else []))) (sym r.sure);
   }
@@ -228,6 +242,7 @@ module _ (t : RunningTx) (items : Items) (office : OfficeState) (trace : TxTrace
     kept = None;
     outcome = outcome_in_doubt;
     ran = r.in_doubt (did commit);
+    writes = λ doubt. writes commit;
     commits = ap (λ (d : DoneNow). d.commits) is ∙ sym (append-nil done.commits);
     doubts = ap (λ (d : DoneNow). d.doubts) is ∙ sym one_commit ∙ ap (λ cs. cs ++ commits_at office.run.order (record { number = t.number; deltas = trace.deltas } ∷ [])) (sym none);
   }

@@ -28,7 +28,7 @@ use Rattle.client_machine.specs.ClientSteps.{Meets, EndsTx, may_begin, with_task
 use Rattle.client_machine.specs.TaskRuns.{RunsNow}
 use Rattle.client_ties.specs.Unfinished.{least_of}
 use Rattle.client_ties.proofs.Laws.{made_before}
-use Rattle.legal_sessions.specs.Legal.{is_in_doubt}
+use Rattle.legal_sessions.specs.Legal.{is_in_doubt, may_write}
 use Rattle.session_states.specs.Sessions.{SeatNow, SessionNow, with_seat, with_finished, with_fault}
 use Rattle.session_states.specs.Telling.{RunningTx}
 use Rattle.session_states.specs.UnderWay.{IsInStep, IsUnderWay}
@@ -319,7 +319,7 @@ UnderDoubt = (session : ScriptSession) (opening : Items) (now : SessionNow) (t :
     → before.client.tasks ≡ [] → tx_at before.client t.number ≡ Some tx → tx.started ≡ true
     → EndsTx script.blocks (without_tx before.client t.number) t.number outcome tx.kind acts seat.client
     → RunsOn ScriptReacts ScriptWrites (part_of (scope_of_body t.body) now.items) t.body t.turns changes kept false outcome
-    → is_in_doubt outcome ≡ true
+    → is_in_doubt outcome ≡ true → may_write t.body ≡ true
     → IsUnderWay session opening (with_finished (entry_ran t changes kept outcome) (with_seat place r seat now)) None
 
 -- by a step of the desk that is nobody's
@@ -333,18 +333,18 @@ DoubtLaw = (session : ScriptSession) (opening : Items) (now : SessionNow) (t : R
     → IsDriven session opening now (Some t) → Moves session (with_fault now) place script before (Makes (step.Leaves before.client.number t.number outcome_in_doubt None) told ∷ acts) r seat
     → before.client.tasks ≡ [] → tx_at before.client t.number ≡ Some tx → tx.started ≡ true
     → EndsTx script.blocks (without_tx before.client t.number) t.number outcome_in_doubt tx.kind acts seat.client
-    → RunsOn ScriptReacts ScriptWrites (part_of (scope_of_body t.body) now.items) t.body t.turns changes None false outcome_in_doubt
+    → RunsOn ScriptReacts ScriptWrites (part_of (scope_of_body t.body) now.items) t.body t.turns changes None false outcome_in_doubt → may_write t.body ≡ true
     → IsDriven session opening (with_finished (entry_ran t changes None outcome_in_doubt) (with_seat place r seat now)) None
 
 pub driven_doubt : UnderDoubt → FitFinish → ShowFinish → FaultLaws → UndoneLaw → DoubtLaw
-driven_doubt under fit show faults undone session opening now t place script before seat acts r told tx changes d m idle found started ends ran =
+driven_doubt under fit show faults undone session opening now t place script before seat acts r told tx changes d m idle found started ends ran writes =
     let run : IsDeskRun (with_step now.run step.Faults) = made_before before.client.number (with_step now.run step.Faults) r (Makes (step.Leaves before.client.number t.number outcome_in_doubt None) told ∷ acts) m.made m.run in
     let in_step = faults.in_step session opening now (Some t) d.under_way.in_step run in
     let fits = faults.fits now d.fits run in
     let shown = faults.shown now d.fits d.shown run in
     let e = entry_ran t changes None outcome_in_doubt in
     record {
-      under_way = under session opening now t place script before seat acts r told tx outcome_in_doubt None changes d.under_way m idle found started ends ran refl;
+      under_way = under session opening now t place script before seat acts r told tx outcome_in_doubt None changes d.under_way m idle found started ends ran refl writes;
       fits = fit session opening (with_fault now) (Some t) place script before seat acts r t.number told tx outcome_in_doubt None e in_step fits m found ends;
       shown = show session opening (with_fault now) t place script before seat acts r told tx outcome_in_doubt None changes in_step fits shown m found ends ran tt;
       opened = d.opened;

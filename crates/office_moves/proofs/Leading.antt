@@ -267,10 +267,10 @@ DurableFaultLaw = (r : DeskRun) (number : ℕ) → durability_drawn (with_step r
 
 pub doubt_leads : DoubtLaw → FaultLaws → DurableLaw → DurableFaultLaw → (t : RunningTx) (changes : List DeltaTree) (old new : OfficeState) (before after : List Note) (done : DoneNow) (items : Items)
     → FinishesInto t.number outcome_in_doubt None (faulted_office old) before new after → IsDeskRun new.run
-    → RunsOn ScriptReacts ScriptWrites (part_of (scope_of_body t.body) items) t.body t.turns changes None false outcome_in_doubt
+    → RunsOn ScriptReacts ScriptWrites (part_of (scope_of_body t.body) items) t.body t.turns changes None false outcome_in_doubt → may_write t.body ≡ true
     → LeadsTo (Some t) None (scene_of old before done items) (scene_of new after (with_finish_of done old.run t.number false true changes) items)
 unfolding faulted_at
-doubt_leads law faults durable faulted t changes old new before after done items f run ran =
+doubt_leads law faults durable faulted t changes old new before after done items f run ran writes =
     let mid = faulted_office old in
     let told : Told = told_by (desk_run mid.run) (step.Leaves old.client.number t.number outcome_in_doubt None) in
     let acts : List Act = Makes (step.Leaves old.client.number t.number outcome_in_doubt None) told ∷ f.acts in
@@ -288,7 +288,7 @@ doubt_leads law faults durable faulted t changes old new before after done items
           (law session done.opening now t place at.script (seat_in old before) (seat_in new after) f.acts new.run told f.tx changes u
           m f.idle f.found f.ran
           (subst (λ (bs : List Named). EndsTx bs (without_tx old.client t.number) t.number outcome_in_doubt f.tx.kind f.acts new.client) at.blocks f.ends)
-          (subst (λ (is : Items). RunsOn ScriptReacts ScriptWrites (part_of (scope_of_body t.body) is) t.body t.turns changes None false outcome_in_doubt) (sym at.items) ran));
+          (subst (λ (is : Items). RunsOn ScriptReacts ScriptWrites (part_of (scope_of_body t.body) is) t.body t.turns changes None false outcome_in_doubt) (sym at.items) ran) writes);
     }
 
 -- ---- without starting

@@ -87,7 +87,7 @@ pub record EndLeads (number : ℕ) (outcome : Outcome) (kept : Option SchemaData
 
 pub record DoubtLeads (number : ℕ) (old : OfficeState) (before : List Note) (new : OfficeState) (after : List Note) : Type 0 where
   pub goes : (t : RunningTx) (changes : List DeltaTree) (done : DoneNow) (items : Items) → t.number ≡ number
-      → RunsOn ScriptReacts ScriptWrites (part_of (scope_of_body t.body) items) t.body t.turns changes None false outcome_in_doubt
+      → RunsOn ScriptReacts ScriptWrites (part_of (scope_of_body t.body) items) t.body t.turns changes None false outcome_in_doubt → may_write t.body ≡ true
       → LeadsTo (Some t) None (scene_of old before done items) (scene_of new after (with_finish_of done old.run number false true changes) items)
 
 pub record DropLeads (number : ℕ) (old : OfficeState) (before : List Note) (new : OfficeState) (after : List Note) : Type 0 where

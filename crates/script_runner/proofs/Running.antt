@@ -101,6 +101,7 @@ stopped_in session old mid left opening here since stops = record {
   run = record { told = old.reads; starts = old.starts; opening = opening; commits = stops.commits; end = stops.log_end };
   opened = record { told = refl; started = refl; found_so = here };
   made = stops.made;
+  cause = stops.cause;
   fault = λ e. rose_since old.faults mid.faults left.faults since (stops.fault e);
   images = stops.images;
 }
@@ -136,7 +137,7 @@ WholeLaw = (session : ScriptSession) (number : ℕ) (opening : Items) (report : 
     → HasCommits session opening commits (with_doubt [] log_end)
 
 pub ran_unreported : WholeLaw → (old left : DiskView) (number : ℕ) (session : ScriptSession) (report : Report) → RanOn old left number session report → StopsIn session old left
-ran_unreported law old left number session report ran = record { run = ran.run; opened = ran.opened; made = inr (law session number ran.run.opening report ran.run.commits ran.run.end ran.closing ran.legal); fault = λ e. ran.fault (ran.legal.told.end ∙ e); images = ran.images }
+ran_unreported law old left number session report ran = record { run = ran.run; opened = ran.opened; made = inr (law session number ran.run.opening report ran.run.commits ran.run.end ran.closing ran.legal); cause = ran.cause; fault = λ e. ran.fault (ran.legal.told.end ∙ e); images = ran.images }
 
 -- ---- all sessions
 pub none_ran : (entry : DiskView) (all rest : List ScriptSession) (held : Option (List ℕ)) → rest ≡ all → RanSoFar entry entry all rest held held 0
@@ -265,6 +266,7 @@ module _ (entry now mid left : DiskView) (all : List ScriptSession) (session : S
       run = stops.run;
       begun = begun_on entry mid last stops.run given tells started stops.opened;
       made = stops.made;
+      cause = stops.cause;
       images = stops.images;
       counted = counted_one entry.faults (fault_ends ran.done) now.faults mid.faults left.faults (report_end stops.run.end) ran.counted so_far more stops.fault;
     },

@@ -18,7 +18,7 @@ use Rattle.report_lines.specs.declared.reports.Report.{Report}
 use Rattle.report_lines.specs.declared.reports.ReportEnd.TheVariants as end
 use Rattle.script_statements.specs.declared.script.ScriptSession.{ScriptSession}
 use Rattle.legal_sessions.specs.Legal.{report_end, IsLegalReport}
-use Rattle.session_driver.specs.Ending.{HadCause}
+use Rattle.session_books.specs.States.{HadCause}
 use Rattle.script_runner.specs.Sessions.{SessionRun, SessionDone, IsLeftBy, HasMade, starts_of, LeavesAfter, AreReported, last_run, texts_of, fault_ends, IsCounted, EndsBetween, EndsAtOpening, EndsByFault, EndsWithin, IsCutOff}
 use Rattle.script_runner.specs.declared.stops.Stop.{Stop}
 use Rattle.script_runner.specs.declared.stops.Stop.TheVariants as stop
@@ -46,6 +46,7 @@ pub record StopsIn (session : ScriptSession) (old left : DiskView) : Type 0 wher
   pub run : SessionRun
   pub opened : IsOpenedOn old run
   pub made : HasMade session run
+  pub cause : HadCause run.commits run.end
   pub fault : report_end run.end ≡ end.Fault → Rose old.faults left.faults
   pub images : EachImage left (IsLeftBy run)
 

@@ -10,15 +10,15 @@
 --     LeavesAfter           what a stop may leave after the last session that began; before the first, what it found as the disk came
 --     BeginsAfter           a session began on what the one before it left, behind a start, and its databases are those that are found
 --                           there; a disk that told its content as it came told it then
---     IsReported            its report is a legal one, on these databases with these commits and this end of its log, which is a failed flush
---                           only where some were still to be written
+--     IsReported            its report is a legal one, on these databases with these commits and this end of its log; where it ended by a
+--                           fault a batch was to be written
 --     AreReported           each session has begun so, and is reported so, under its number
 --     last_run, texts_of    the last session that began;  the texts of the reports, one after another
 --     fault_ends            how many sessions ended by a fault of the disk
 --     IsCounted             a count of faults rose at least by so many, or stands at the end of its 64 bits
 --     StopsBetween          the first ones are reported, and then the program stopped
 --     StopsWithin           the first ones are reported, and the next one began, and stopped before its report: its commits are those of
---                           what it had done, and a fault by which its log ended is counted too
+--                           what it had done, and a fault by which its log ended had its cause and is counted too
 --     EndsBetween, EndsWithin     so, and just the texts of these reports were written
 --     EndsAtOpening         it ended between two sessions, or before the first, and one more was to be opened
 --     EndsByFault           it ended so by a fault of the disk: a fault was counted beside those that sessions ended by
@@ -41,7 +41,7 @@ use Rattle.report_lines.specs.declared.reports.ReportEnd.TheVariants as end
 use Rattle.script_statements.specs.declared.script.ScriptSession.{ScriptSession}
 use Rattle.legal_sessions.specs.Legal.{report_end, IsLegalReport}
 use Rattle.interrupted_sessions.specs.Interrupted.{WasInterrupted}
-use Rattle.session_driver.specs.Ending.{HadCause}
+use Rattle.session_books.specs.States.{HadCause}
 
 -- ---- one session
 pub record SessionRun : Type 0 where
@@ -135,6 +135,7 @@ pub record StopsWithin (entry left : DiskView) (sessions : List ScriptSession) (
   pub run : SessionRun
   pub begun : BeginsAfter entry (last_run None done) run
   pub made : HasMade stopped run
+  pub cause : HadCause run.commits run.end
   pub images : EachImage left (IsLeftBy run)
   pub counted : IsCounted entry.faults (fault_ends done + one_if_fault (report_end run.end)) left.faults
 

@@ -45,15 +45,15 @@ module _ {D : Type 0} (shows : D → DiskView) (opening : Items) (commits : List
         → (r : Finish) → (r ≡ answer.DiskFault → ⊥) → (new : BookState D) (noted : List Commit) (later : List ℕ) → FinishIs shows t old r new → noted ≡ noted_commits t r commits
         → IsSessionBook shows (record { opening = opening; commits = noted; end = end; finished = later; log = new.log }) new.committed
     keeps_after finish answer.Sealed undoubted new noted later is noted_is = keeps_so shows opening (commits ++ commit_of t ∷ []) noted Dropped end later new.log new.committed noted_is runs
-        (finish opening commits t answer.Sealed old new follows is) (applies (commit_is t is.0.commit)) (one_number_more old.committed new.committed commits t keeps.numbers is.2.committed)
+        (finish opening commits t answer.Sealed old new follows is) (applies (commit_is t is.0.commit)) (one_number_more old.committed new.committed commits t keeps.numbers is.2.committed) tt
     keeps_after finish answer.Waiting undoubted new noted later is noted_is = keeps_so shows opening (commits ++ commit_of t ∷ []) noted Dropped end later new.log new.committed noted_is runs
-        (finish opening commits t answer.Waiting old new follows is) (applies (commit_is t is.0.commit)) (one_number_more old.committed new.committed commits t keeps.numbers is.1.committed)
+        (finish opening commits t answer.Waiting old new follows is) (applies (commit_is t is.0.commit)) (one_number_more old.committed new.committed commits t keeps.numbers is.1.committed) tt
     keeps_after finish answer.Noted undoubted new noted later is noted_is = keeps_so shows opening commits noted Dropped end later new.log new.committed noted_is runs
-        (finish opening commits t answer.Noted old new follows is) apply (is.2.committed ∙ keeps.numbers)
+        (finish opening commits t answer.Noted old new follows is) apply (is.2.committed ∙ keeps.numbers) tt
     keeps_after finish answer.DiskFault undoubted new noted later is noted_is = absurd (undoubted refl)
     keeps_after finish (answer.Faulted seen) undoubted new noted later is noted_is = absurd (both_ways old.log.failed seen is.0.failed faultless)
     keeps_after finish answer.NoMemory undoubted new noted later is noted_is = keeps_so shows opening commits noted Dropped end later new.log new.committed noted_is runs
-        (finish opening commits t answer.NoMemory old new follows is) apply (ap (λ (b : BookState D). b.committed) is ∙ keeps.numbers)
+        (finish opening commits t answer.NoMemory old new follows is) apply (ap (λ (b : BookState D). b.committed) is ∙ keeps.numbers) tt
 
     pub moments_of_enter : FindsKept shows → FindsWithinFinish shows → sealed commits ≤ length commits
         → ((image : Areas) → (shows old.log.disk).left_since (shows old.log.disk).moment image → (shows old.log.disk).may_leave image) → EachImage (shows old.log.disk) (IsFoundSo shows old.log)
@@ -71,8 +71,8 @@ module _ {D : Type 0} (shows : D → DiskView) (opening : Items) (commits : List
       → FollowsCommits shows o cs Dropped before.log → FlushIs shows before r after → FollowsFlush shows o cs r after.log)
       → (r : Flush) → (r ≡ flush.Sealed) ⊎ (r ≡ flush.Nothing) → (new : BookState D) (later : List ℕ) → FlushIs shows old r new
       → IsSessionBook shows (record { opening = opening; commits = commits; end = Flushed; finished = later; log = new.log }) new.committed
-  keeps_after_flush flushes flush.Sealed either new later is = record { follows = flushes opening commits flush.Sealed old new follows is; applies = apply; numbers = ap (λ (b : BookState D). b.committed) is.2 ∙ keeps.numbers }
-  keeps_after_flush flushes flush.Nothing either new later is = record { follows = flushes opening commits flush.Nothing old new follows is; applies = apply; numbers = ap (λ (b : BookState D). b.committed) is.2 ∙ keeps.numbers }
+  keeps_after_flush flushes flush.Sealed either new later is = record { follows = flushes opening commits flush.Sealed old new follows is; applies = apply; numbers = ap (λ (b : BookState D). b.committed) is.2 ∙ keeps.numbers; cause = tt }
+  keeps_after_flush flushes flush.Nothing either new later is = record { follows = flushes opening commits flush.Nothing old new follows is; applies = apply; numbers = ap (λ (b : BookState D). b.committed) is.2 ∙ keeps.numbers; cause = tt }
   keeps_after_flush flushes flush.DiskFault (inl e) new later is = absurd cc
   keeps_after_flush flushes flush.DiskFault (inr e) new later is = absurd cc
   keeps_after_flush flushes (flush.Faulted seen) (inl e) new later is = absurd cc
@@ -111,6 +111,7 @@ keeps_noted shows opening commits end finished later t old new r keeps is out =
       follows = subst (λ l. FollowsCommits shows opening commits end l) (sym same.0) keeps.follows;
       applies = keeps.applies;
       numbers = same.1 ∙ keeps.numbers;
+      cause = keeps.cause;
     }
 
 -- the same of the book as it is seen

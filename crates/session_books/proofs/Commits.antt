@@ -12,7 +12,7 @@ use Rattle.log_history.specs.Kept.{End, Dropped, FailedCommit, with_doubt}
 use Rattle.tx_book.specs.Books.{BookLog, fresh, book_batches}
 use Rattle.tx_book.specs.Entries.{has_committed, only_reads, IsCommit, IsNoted}
 use Rattle.tx_book.specs.Follows.{FollowsCommits}
-use Rattle.session_books.specs.States.{numbers_of, commits_apply, IsSessionBook}
+use Rattle.session_books.specs.States.{numbers_of, commits_apply, HadCause, IsSessionBook}
 use Rattle.session_books.specs.Entering.{is_commit, commits_with, end_within}
 
 -- ---- a commit, or none
@@ -54,12 +54,13 @@ one_number_more old new commits t was is = is ∙ ap (λ (l : List ℕ). l ++ t.
 
 -- ---- what the book keeps, of commits and an end that are known
 pub keeps_so : {D : Type 0} (shows : D → DiskView) (opening : Items) (commits noted : List Commit) (end seen : End) (finished : List ℕ) (log : BookLog D) (committed : List ℕ)
-    → noted ≡ commits → seen ≡ end → FollowsCommits shows opening commits end log → commits_apply opening (with_doubt commits end) ≡ true → committed ≡ numbers_of commits
+    → noted ≡ commits → seen ≡ end → FollowsCommits shows opening commits end log → commits_apply opening (with_doubt commits end) ≡ true → committed ≡ numbers_of commits → HadCause commits end
     → IsSessionBook shows (record { opening = opening; commits = noted; end = seen; finished = finished; log = log }) committed
-keeps_so shows opening commits noted end seen finished log committed noted_is seen_is follows applies numbers = record {
+keeps_so shows opening commits noted end seen finished log committed noted_is seen_is follows applies numbers cause = record {
   follows = subst (λ (cs : List Commit). FollowsCommits shows opening cs seen log) (sym noted_is) (subst (λ (e : End). FollowsCommits shows opening commits e log) (sym seen_is) follows);
   applies = ap (λ (cs : List Commit). commits_apply opening (with_doubt cs seen)) noted_is ∙ ap (λ (e : End). commits_apply opening (with_doubt commits e)) seen_is ∙ applies;
   numbers = numbers ∙ ap numbers_of (sym noted_is);
+  cause = subst (λ (cs : List Commit). HadCause cs seen) (sym noted_is) (subst (λ (e : End). HadCause commits e) (sym seen_is) cause);
 }
 
 -- a log that was just opened on these items
@@ -77,4 +78,5 @@ opens_so shows opening disk live log finished committed new none gives = record 
       });
   applies = refl;
   numbers = none;
+  cause = tt;
 }

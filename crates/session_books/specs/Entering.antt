@@ -2,7 +2,6 @@
 --     is_commit             the transaction committed, and may have written
 --     commits_with          the commits with this one, where it is one
 --     end_within            the end that a stop within the call leaves: as after a fault, where a commit is entered
---     ends_its_batch        with this commit behind those its batch ends
 --     with_entered, with_noted, doubted      the book with a transaction;  with one that is no commit;  with one that met a fault, whose commit is in doubt
 --     flushed, flush_failed        the book that was flushed;  whose flush met a fault
 --     IsButLog              it is so, with a log of its own
@@ -11,10 +10,10 @@ use Rattle.std.specs.Prelude.{◌≡◌, ℕ, ◌≤◌, Bool, true, not, ◌&&�
 use Rattle.edge_traits.specs.Faults.{Rose}
 use Rattle.disk_trait.specs.Disk.{DiskView}
 use Rattle.idb_calls.specs.declared.traces.TxTrace.{TxTrace}
-use Rattle.log_history.specs.Batching.{Commit, commit_of, batched, ends_batch}
+use Rattle.log_history.specs.Batching.{Commit, commit_of, batched}
 use Rattle.log_history.specs.Kept.{End, Dropped, Flushed, FailedCommit, FailedFlush}
 use Rattle.tx_book.specs.Entries.{has_committed, only_reads}
-use Rattle.session_books.specs.States.{SessionBookState}
+use Rattle.session_books.specs.States.{SessionBookState, ends_its_batch}
 
 abbrev pub is_commit : TxTrace → Bool
 is_commit trace = has_committed trace.outcome && not (only_reads trace.mode)
@@ -24,9 +23,6 @@ commits_with commits trace = if is_commit trace then commits ++ commit_of trace 
 
 abbrev pub end_within : TxTrace → End
 end_within trace = if is_commit trace then FailedCommit (commit_of trace) else Dropped
-
-abbrev pub ends_its_batch : List Commit → Commit → Bool
-ends_its_batch commits c = ends_batch c ((batched commits).waiting ++ c ∷ [])
 
 abbrev pub with_entered : {D : Type 0} → TxTrace → SessionBookState D → SessionBookState D
 with_entered trace book = record book { commits = commits_with book.commits trace; finished = book.finished ++ trace.number ∷ [] }

@@ -64,7 +64,7 @@ impl<D: Disk, T: Tables> SessionBook<D, T> {
     ghost use Rattle.tx_book.specs.Books.{fresh};
     ghost use Rattle.tx_book.specs.Entries.{CanBeLogged, has_committed};
     ghost use Rattle.tx_book.specs.Follows.{IsFoundKept};
-    ghost use Rattle.session_books.specs.States.{opened_on, takes_more, numbers_of, commits_apply, HoldsItems};
+    ghost use Rattle.session_books.specs.States.{opened_on, takes_more, numbers_of, commits_apply, HadCause, HoldsItems};
     ghost use Rattle.session_books.specs.Entering.{is_commit, end_within, with_entered, with_noted, flushed, IsButLog, FailsAtCommit, FailsAtFlush};
 
     /// A book over a log that was just opened, and its databases. It takes no memory.
@@ -185,11 +185,12 @@ impl<D: Disk, T: Tables> SessionBook<D, T> {
     }
 
     /// The disk, the numbers of the transactions that finished, and those of the commits among them, both in the order in which they
-    /// were entered. The commits that wait are lost.
+    /// were entered. The commits that wait are lost. A fault by which it ended came as a batch was written.
     pub fn into_parts(self) -> (D, Numbers, Numbers)
         ensures disk { result.0 ≡ self.log.disk }
         ensures finished { result.1 ≡ self.finished }
         ensures committed { result.2 ≡ numbers_of self.commits }
+        ensures cause { HadCause self.commits self.end }
         ensures images { EachImage (D.shows result.0) (IsFoundKept self.opening self.commits self.end) }
     {
         book_laws::<D>();

@@ -19,7 +19,7 @@ use Rattle.report_lines.specs.declared.reports.Report.{Report}
 use Rattle.report_lines.specs.declared.reports.ReportEnd.TheVariants as end
 use Rattle.script_statements.specs.declared.script.ScriptSession.{ScriptSession}
 use Rattle.legal_sessions.specs.Legal.{has_of, EndsSo, report_end, IsLegalReport}
-use Rattle.session_books.specs.States.{SessionBookState, takes_more}
+use Rattle.session_books.specs.States.{SessionBookState, takes_more, HadCause}
 use Rattle.session_states.specs.Sessions.{commit_numbers}
 use Rattle.interrupted_sessions.specs.Interrupted.{WasInterrupted}
 use Rattle.office_moves.specs.Running.{BookGoesOn}
@@ -94,13 +94,13 @@ fault_ends FailedCheckpoint is = refl
 pub reports_on : LegalLaw → (session : ScriptSession) (number : ℕ) (r : DeskRun) (seats : List Seat) (done : DoneNow) (items : Items) (lines : List Has) (report : Report) (opening : Items) (log_end : End) (left : DiskView)
     → RanTo session r seats done items log_end → lines ≡ map has_of (finite.entries done.opening)
     → report ≡ report_told r seats lines done.finish (commit_numbers done.commits) number (report_end log_end)
-    → done.opening ≡ opening → EachImage left (IsFoundKept done.opening done.commits log_end) → ReportsOn session number opening report left
-reports_on law session number r seats done items lines report opening log_end left ran lines_are report_is opened images = record {
+    → done.opening ≡ opening → HadCause done.commits log_end → EachImage left (IsFoundKept done.opening done.commits log_end) → ReportsOn session number opening report left
+reports_on law session number r seats done items lines report opening log_end left ran lines_are report_is opened cause images = record {
   commits = done.commits;
   log_end = log_end;
   closing = items;
   legal = subst (λ (is : Items). IsLegalReport session number is report done.commits log_end items) opened (session_legal law session number r seats done items lines log_end report ran lines_are report_is);
-  cause = ran.cause;
+  cause = cause;
   images = subst (λ (is : Items). EachImage left (IsFoundKept is done.commits log_end)) opened images;
 }
 
@@ -110,6 +110,6 @@ risen shows fresh begun ran disk is none goes left e =
     subst (λ d. Rose (shows fresh.log.disk).faults (shows d).faults) (sym left)
     (subst (λ (b : SessionBookState _). Rose (shows b.log.disk).faults (shows ran.log.disk).faults) is (goes.rose (ap (λ (b : SessionBookState _). met_fault b.end) is ∙ none) (fault_ends ran.end e)))
 
-pub stops_on : (session : ScriptSession) (done : DoneNow) (log_end : End) (old left : DiskView) (opening : Items) → done.opening ≡ opening → WasInterrupted session done.opening done.commits (with_doubt [] log_end) → (report_end log_end ≡ end.Fault → Rose old.faults left.faults)
+pub stops_on : (session : ScriptSession) (done : DoneNow) (log_end : End) (old left : DiskView) (opening : Items) → done.opening ≡ opening → WasInterrupted session done.opening done.commits (with_doubt [] log_end) → HadCause done.commits log_end → (report_end log_end ≡ end.Fault → Rose old.faults left.faults)
     → EachImage left (IsFoundKept done.opening done.commits log_end) → StopsOn session opening old left
-stops_on session done log_end old left opening opened made fault images = record { commits = done.commits; log_end = log_end; made = subst (λ (is : Items). WasInterrupted session is done.commits (with_doubt [] log_end)) opened made; fault = fault; images = subst (λ (is : Items). EachImage left (IsFoundKept is done.commits log_end)) opened images }
+stops_on session done log_end old left opening opened made cause fault images = record { commits = done.commits; log_end = log_end; made = subst (λ (is : Items). WasInterrupted session is done.commits (with_doubt [] log_end)) opened made; cause = cause; fault = fault; images = subst (λ (is : Items). EachImage left (IsFoundKept is done.commits log_end)) opened images }

@@ -42,7 +42,7 @@ module _ (between : BetweenLaw) (session : ScriptSession) (r : DeskRun) (seats :
         let now = with_scene place (scene_of run.office run.notes done items) (session_seen r seats done items) in
         let driven : IsDriven session done.opening now (Some run.t) = run.goes.leads session (session_seen r seats done items) place here drives.driven in
         told_so session done.opening last.opening _ last.commits _ last.doubts opened tells.commits tells.doubts
-        (at_end session done.opening now run.t tells.changes tells.kept tells.outcome driven.under_way tells.ran)
+        (at_end session done.opening now run.t tells.changes tells.kept tells.outcome driven.under_way tells.ran tells.writes)
 
     pub stopped_behind : (new : OfficeState) (after : List Note) (last : DoneNow) (left : Items) → LeadsTo None None (scene_of office s.notes done items) (scene_of new after last left) → HasCommits session last.opening last.commits last.doubts
     stopped_behind new after last left leads =

@@ -3,7 +3,6 @@ ghost use Rattle.std.specs.Prelude.{◌≡◌, true, IfOk, OnOk};
 ghost use Rattle.legal_sessions.specs.Legal.{EndsSo, report_end};
 ghost use Rattle.office_moves.specs.Running.{BookGoesOn};
 ghost use Rattle.office_moves.specs.Scenes.{done_of_book, is_open_end};
-ghost use Rattle.session_driver.specs.Ending.{HadCause};
 
 use disk_trait::Disk;
 use idb_base::NoMemory;
@@ -19,7 +18,6 @@ pub(crate) fn end_log<D: Disk, T: Tables>(
     requires { is_open_end book.old.end ≡ true }
     ensures same { done_of_book book.new ≡ done_of_book book.old }
     ensures ends { OnOk result (EndsSo drop_end (done_of_book book.old).doubts book.new.end) }
-    ensures cause { OnOk result (HadCause (done_of_book book.old).commits book.new.end) }
     ensures end { IfOk result (λ e. e ≡ report_end book.new.end) }
     ensures goes { BookGoesOn D.shows book.old book.new }
 {

@@ -26,7 +26,7 @@ use Rattle.client_ties.specs.Unfinished.{AreDrawn}
 use Rattle.client_ties.proofs.Laws.{IsSound, none_unfinished}
 use Rattle.legal_sessions.specs.Histories.{AreClientRuns}
 use Rattle.legal_sessions.specs.SerialResults.{BegunTx, begun_in, begun_by, AreEntriesOf}
-use Rattle.legal_sessions.specs.Legal.{commits_of, record_of_entry, records_logged, commit_at, EndsSo, IsLegalReport}
+use Rattle.legal_sessions.specs.Legal.{FinishFits, commits_of, record_of_entry, records_logged, commit_at, EndsSo, IsLegalReport}
 use Rattle.session_states.specs.Sessions.{SeatNow, SessionNow, commit_numbers, IsAtEnd, report_now}
 use Rattle.session_states.specs.Telling.{ToldTx, BegunAt, begun_at, begun_from, acts_where, acts_at, shown_begun, as_begun, RunningTx}
 use Rattle.session_states.specs.UnderWay.{AreSeats, AreFinishedAs, IsUnderWay}
@@ -165,7 +165,8 @@ module _ (sound : (r : DeskRun) → IsDeskRun r → IsSound (desk_run r)) where
             serial = subst (IsSerial ScriptReacts ScriptWrites opening) (sym placed) u.finished.serial;
           };
           in_order = in_order 1 u.entries rise;
-          faults = record { doubts = way.faults.doubts; marked = way.faults.marked };
+          finish_fits = subst (FinishFits now.run.order) u.finished.finish u.finish_order.fits;
+          faults = record { doubts = way.faults.doubts; behind = u.behind; marked = way.faults.marked };
         };
         told = record {
           session = refl;

@@ -5,14 +5,13 @@
 --     faults_left, faults_doubted   where a transaction finished;  in doubt
 --     durable_faulted, in_step_faulted      the host is faulted
 --     doubted_faulted       it is so exactly where a transaction is in doubt
-use Rattle.std.proofs.Common.{◌≡◌, ℕ, ◌+◌, ◌≤◌, Bool, true, false, not, ◌&&◌, ◌||◌, List, [], ◌∷◌, ◌++◌, map, length, filter, if◌then◌else◌, Option, Some, None, inl, inr, refl, sym, ◌∙◌, ap, subst, arith}
+use Rattle.std.proofs.Common.{◌≡◌, ℕ, ◌+◌, ◌≤◌, Bool, true, false, not, ◌&&◌, ◌||◌, List, [], ◌∷◌, ◌++◌, map, length, filter, if◌then◌else◌, Option, Some, None, inl, inr, refl, sym, ◌∙◌, ap, subst}
 use Rattle.std.specs.Bool.{MatchBool}
 use Rattle.std.specs.List.{list_any, AllByRecursion}
 use Rattle.std.proofs.lemmas.Bool.{cases_Bool}
-use Rattle.std.proofs.lemmas.List.{append-nil, length-append, take-append-le}
+use Rattle.std.proofs.lemmas.List.{append-nil}
 use Rattle.std.proofs.lemmas.List.Elements.{filter-append}
 use Rattle.idb_keys.specs.declared.names.Durability.TheVariants.{Strict, Relaxed}
-use Rattle.idb_keys.specs.declared.names.ErrorName.{ErrorName}
 use Rattle.idb_keys.specs.declared.names.Mode.{Mode}
 use Rattle.idb_schema.specs.Schemas.{SchemaData}
 use Rattle.name_queues.specs.declared.events.ClientEvent.{ClientEvent}
@@ -27,7 +26,7 @@ use Rattle.idb_desk.specs.declared.steps.DeskStep.{DeskStep}
 use Rattle.idb_desk.specs.declared.steps.DeskStep.TheVariants as step
 use Rattle.idb_desk.specs.Desks.{DeskState, DeskBoard, name_asked_by, drawn_at}
 use Rattle.idb_desk.specs.Durabilities.{creates_relaxed, durability_drawn}
-use Rattle.idb_desk.specs.Refusals.{is_allowed, refusal_of_step, is_to_start, is_committed, is_go, has_some}
+use Rattle.idb_desk.specs.Refusals.{is_to_start, is_committed, is_go, has_some}
 use Rattle.idb_desk.specs.Steps.{after, after_all, after_take, after_created, after_left, drawn_whole, event_for, new_desk, DeskRun, desk_run, with_step, IsDeskRun}
 use Rattle.item_changes.specs.Items.{Items}
 use Rattle.record_bytes.specs.declared.records.LogRecord.{LogRecord}
@@ -36,16 +35,18 @@ use Rattle.client_machine.specs.FinishEntries.{FinishEntry, did_commit}
 use Rattle.script_statements.specs.declared.script.ScriptSession.{ScriptSession}
 use Rattle.script_runs.specs.declared.notes.Note.{Note}
 use Rattle.script_handlers.specs.Handling.{Script}
-use Rattle.client_machine.specs.Acts.{Told, Act, Noted, Makes, Fails, Begins, TakesTurn}
-use Rattle.client_machine.specs.Answering.{told_by, told_steps, is_own, own_told, part_run, FailsAt, AllFailed, Agrees, MadeAtOnce}
+use Rattle.client_machine.specs.Acts.{Told, Act, Makes}
+use Rattle.client_machine.specs.Answering.{told_by, told_steps, is_own, own_told, Agrees, MadeAtOnce}
+use Rattle.client_machine.proofs.Laws.{all_still}
 use Rattle.client_ties.specs.Unfinished.{unfinished_of, AreDrawn}
 use Rattle.client_ties.proofs.Laws.{run_before, run_after}
-use Rattle.legal_sessions.specs.Legal.{is_fault, is_in_doubt, DoubtsFit, record_of_entry, commits_at, records_logged, records_in_doubt}
+use Rattle.legal_sessions.specs.Legal.{is_fault, is_in_doubt, may_write, DoubtsFit, record_of_entry, commits_at, records_logged, records_in_doubt}
 use Rattle.session_states.specs.Sessions.{SessionNow, with_fault}
 use Rattle.session_states.specs.Telling.{told_of, acts_at, BegunAt, shown_begun, RunningTx}
 use Rattle.session_states.specs.UnderWay.{IsWaiting, HasBegun, AreFinishedAs, IsInStep, is_doubted, HasFaults, IsUnderWay}
 use Rattle.session_states.proofs.Told.{any_both, theirs_with, told_off}
 use Rattle.session_states.proofs.Placed.{all_stay}
+use Rattle.session_states.proofs.FinishOrder.{order_still, fits_longer}
 
 abbrev Entry : Type 0
 Entry = FinishEntry Script Note
@@ -120,24 +121,26 @@ abbrev IsDropped : Entry → Type 0
 IsDropped e = (did_commit e.outcome ≡ false) × (is_in_doubt e.outcome ≡ false)
 
 abbrev fit_where : Bool → Entry → List Entry → Type 0
-fit_where b e es = MatchBool b (AllByRecursion IsDropped es) ((e.by_host ≡ false) × DoubtsFit es)
+fit_where b e es = MatchBool b ((may_write e.body ≡ true) × AllByRecursion IsDropped es) ((e.by_host ≡ false) × DoubtsFit es)
 
-all_end : {X : Type 0} (P : X → Type 0) (xs : List X) (x : X) → AllByRecursion P xs → P x → AllByRecursion P (xs ++ x ∷ [])
+pub all_end : {X : Type 0} (P : X → Type 0) (xs : List X) (x : X) → AllByRecursion P xs → P x → AllByRecursion P (xs ++ x ∷ [])
 all_end P [] x all p = (p, tt)
 all_end P (y ∷ ys) x all p = (all.0, all_end P ys x all.1 p)
 
--- behind one in doubt it is dropped, and before there is one the host doesn't end it
-doubts_end : (es : List Entry) (e : Entry) → DoubtsFit es → (list_any is_doubted es ≡ true → IsDropped e) → (list_any is_doubted es ≡ false → is_in_doubt e.outcome ≡ false → e.by_host ≡ false) → DoubtsFit (es ++ e ∷ [])
-doubts_end [] e fit dropped own = elim (cases_Bool (is_in_doubt e.outcome)) [
-  | inl is ↦ subst (λ b. fit_where b e []) (sym is) tt
+-- behind one in doubt it is dropped, and before there is one the host doesn't end it; in doubt it may write
+doubts_end : (es : List Entry) (e : Entry) → DoubtsFit es → (is_in_doubt e.outcome ≡ true → may_write e.body ≡ true) → (list_any is_doubted es ≡ true → IsDropped e) → (list_any is_doubted es ≡ false → is_in_doubt e.outcome ≡ false → e.by_host ≡ false) → DoubtsFit (es ++ e ∷ [])
+doubts_end [] e fit writes dropped own = elim (cases_Bool (is_in_doubt e.outcome)) [
+  | inl is ↦ subst (λ b. fit_where b e []) (sym is) (writes is, tt)
   | inr out ↦ subst (λ b. fit_where b e []) (sym out) (own refl out, tt)
 ]
-doubts_end (f ∷ es) e fit dropped own = elim (cases_Bool (is_in_doubt f.outcome)) [
-  | inl is ↦ subst (λ b. fit_where b f (es ++ e ∷ [])) (sym is) (all_end IsDropped es e (subst (λ b. fit_where b f es) is fit) (dropped (ap (λ b. b || list_any is_doubted es) is)))
+doubts_end (f ∷ es) e fit writes dropped own = elim (cases_Bool (is_in_doubt f.outcome)) [
+  | inl is ↦
+      let h : (may_write f.body ≡ true) × AllByRecursion IsDropped es = subst (λ b. fit_where b f es) is fit in
+      subst (λ b. fit_where b f (es ++ e ∷ [])) (sym is) (h.0, all_end IsDropped es e h.1 (dropped (ap (λ b. b || list_any is_doubted es) is)))
   | inr out ↦
       let h : (f.by_host ≡ false) × DoubtsFit es = subst (λ b. fit_where b f es) out fit in
       let same : list_any is_doubted (f ∷ es) ≡ list_any is_doubted es = ap (λ b. b || list_any is_doubted es) out in
-      subst (λ b. fit_where b f (es ++ e ∷ [])) (sym out) (h.0, doubts_end es e h.1 (λ k. dropped (same ∙ k)) (λ k. own (same ∙ k)))
+      subst (λ b. fit_where b f (es ++ e ∷ [])) (sym out) (h.0, doubts_end es e h.1 writes (λ k. dropped (same ∙ k)) (λ k. own (same ∙ k)))
 ]
 
 pub any_last : {X : Type 0} (p : X → Bool) (xs : List X) (x : X) → p x ≡ true → list_any p (xs ++ x ∷ []) ≡ true
@@ -156,14 +159,14 @@ module _ (order later : List DeskStep) (running : Option RunningTx) (es : List E
   pub faults_left : (e : Entry) → list_any is_fault later ≡ list_any is_fault order → is_in_doubt e.outcome ≡ false → (list_any is_fault order ≡ true → did_commit e.outcome ≡ false)
       → (list_any is_fault order ≡ false → e.by_host ≡ false) → HasFaults later None (es ++ e ∷ [])
   faults_left e same sure dropped own = record {
-    doubts = doubts_end es e f.doubts (λ k. (dropped (f.marked ∙ k), sure)) (λ k also. own (f.marked ∙ k));
+    doubts = doubts_end es e f.doubts (λ k. absurd (no (sym k ∙ sure))) (λ k. (dropped (f.marked ∙ k), sure)) (λ k also. own (f.marked ∙ k));
     marked = same ∙ f.marked ∙ sym (any_both is_doubted es (e ∷ []) (ap (λ b. b || false) sure));
     stopped = λ k. refl;
   }
 
-  pub faults_doubted : (e : Entry) → list_any is_fault order ≡ false → list_any is_fault later ≡ true → is_in_doubt e.outcome ≡ true → HasFaults later None (es ++ e ∷ [])
-  faults_doubted e calm faulted doubt = record {
-    doubts = doubts_end es e f.doubts (λ k. absurd (no (sym k ∙ sym f.marked ∙ calm))) (λ k also. absurd (no (sym doubt ∙ also)));
+  pub faults_doubted : (e : Entry) → list_any is_fault order ≡ false → list_any is_fault later ≡ true → is_in_doubt e.outcome ≡ true → may_write e.body ≡ true → HasFaults later None (es ++ e ∷ [])
+  faults_doubted e calm faulted doubt writes = record {
+    doubts = doubts_end es e f.doubts (λ k. writes) (λ k. absurd (no (sym k ∙ sym f.marked ∙ calm))) (λ k also. absurd (no (sym doubt ∙ also)));
     marked = faulted ∙ sym (any_last is_doubted es e doubt);
     stopped = λ k. refl;
   }
@@ -189,27 +192,8 @@ own_faulted client r = ap (filter (is_own client)) (told_more (new_desk r.openin
     ∙ filter-append (is_own client) (told_steps (new_desk r.opening) r.order) ((step.Faults, told_by (desk_run r) step.Faults) ∷ [])
     ∙ append-nil (filter (is_own client) (told_steps (new_desk r.opening) r.order))
 
-fails_still : (client : ℕ) (r : DeskRun) (u : DeskStep) (n : ℕ) (t : DeskStep) (name : Option ErrorName) → FailsAt client r n t name → FailsAt client (with_step r u) n t name
-fails_still client r u n t name f =
-    let same : part_run (with_step r u) f.place ≡ part_run r f.place = ap (λ order. record { opening = r.opening; order = order }) (take-append-le f.place r.order (u ∷ []) f.within) in
-    record {
-      place = f.place;
-      within = (let longer = length-append r.order (u ∷ []) in let le = f.within in omega arith);
-      behind = ap (λ q. length (own_told client q)) same ∙ f.behind;
-      not_taken = ap (λ q. is_allowed (desk_run q) t) same ∙ f.not_taken;
-      named = f.named ∙ sym (ap (λ q. refusal_of_step (desk_run q) t) same);
-    }
-
-failed_still : (client : ℕ) (r : DeskRun) (u : DeskStep) (n : ℕ) (acts : List Act) → AllFailed client r n acts → AllFailed client (with_step r u) n acts
-failed_still client r u n [] f = tt
-failed_still client r u n (Makes t told ∷ acts) f = failed_still client r u (n + 1) acts f
-failed_still client r u n (Fails t name ∷ acts) f = (fails_still client r u n t name f.0, failed_still client r u n acts f.1)
-failed_still client r u n (Noted note ∷ acts) f = failed_still client r u n acts f
-failed_still client r u n (Begins tx ∷ acts) f = failed_still client r u n acts f
-failed_still client r u n (TakesTurn number notes ∷ acts) f = failed_still client r u n acts f
-
 agrees_faulted : (client : ℕ) (r : DeskRun) (acts : List Act) → Agrees client r acts → Agrees client (with_step r step.Faults) acts
-agrees_faulted client r acts a = record { steps = a.steps ∙ sym (own_faulted client r); failed = failed_still client r step.Faults 0 acts a.failed }
+agrees_faulted client r acts a = record { steps = a.steps ∙ sym (own_faulted client r); failed = all_still client r step.Faults 0 0 acts a.failed }
 
 next_faulted : (r : DeskRun) → (desk_run (with_step r step.Faults)).board.scopes.next ≡ (desk_run r).board.scopes.next
 unfolding after
@@ -277,6 +261,8 @@ in_step_faulted session opening now running u run = (
       commits = u.finished.commits ∙ sym (commits_faulted now.run.order (records_logged u.entries));
       doubts = u.finished.doubts ∙ sym (commits_faulted now.run.order (records_in_doubt u.entries));
     };
+    finish_order = order_still now.run.order now.finish u.finish_order (step.Faults ∷ []) (λ number. refl) (λ number. refl);
+    behind = fits_longer now.run.order (step.Faults ∷ []) u.entries u.behind;
   },
   refl,
 )

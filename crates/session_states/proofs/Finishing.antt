@@ -4,14 +4,16 @@
 --     doubt_under_way       one that ran, and its commit met a fault
 --     cancel_under_way, host_under_way      one that never started: its body aborted it, or the host ended it
 --     aborted_undone        one that didn't commit leaves nothing
-use Rattle.std.proofs.Common.{◌≡◌, ℕ, zero, suc, ◌+◌, Bool, true, false, not, ◌&&◌, List, [], ◌∷◌, ◌++◌, map, filter, slice_get, slice_set, if◌then◌else◌, Option, Some, None, refl, sym, ◌∙◌, ap, subst}
+use Rattle.std.proofs.Common.{◌≡◌, ℕ, zero, suc, ◌+◌, Bool, true, false, not, ◌&&◌, ◌||◌, List, [], ◌∷◌, ◌++◌, map, filter, slice_get, slice_set, if◌then◌else◌, Option, Some, None, inl, inr, refl, sym, ◌∙◌, ap, subst}
 use Rattle.std.specs.Prelude.{◌==◌}
-use Rattle.std.specs.List.{list_any, find}
+use Rattle.std.specs.List.{list_any, find, AllByRecursion}
+use Rattle.std.proofs.lemmas.Bool.{cases_Bool}
 use Rattle.std.proofs.lemmas.List.{append-nil, append_assoc, map-append}
 use Rattle.std.proofs.lemmas.List.Elements.{filter-append}
 use Rattle.idb_schema.specs.Schemas.{SchemaData}
 use Rattle.idb_calls.specs.Deltas.{DeltaTree}
 use Rattle.idb_calls.specs.declared.traces.Outcome.{Outcome}
+use Rattle.idb_desk.specs.declared.steps.DeskStep.{DeskStep}
 use Rattle.idb_desk.specs.declared.steps.DeskStep.TheVariants as step
 use Rattle.idb_desk.specs.Steps.{DeskRun, desk_run, with_step, IsDeskRun}
 use Rattle.item_changes.specs.Items.{Items}
@@ -30,20 +32,21 @@ use Rattle.client_machine.specs.ClientSteps.{ClientStep, FinishesTx, FinishesUns
 use Rattle.client_ties.specs.Unfinished.{least_of, Draws}
 use Rattle.client_ties.specs.Ties.{shown_tx}
 use Rattle.client_ties.proofs.Laws.{IsSound, Grows, grows_end, notes_txs, made_split, made_before}
-use Rattle.legal_sessions.specs.SerialResults.{number_of_entry}
-use Rattle.legal_sessions.specs.Legal.{is_fault, is_in_doubt, may_write, commits_of, record_of_entry, records_logged, in_doubt_of, records_in_doubt, commit_at, commits_at}
+use Rattle.legal_sessions.specs.SerialResults.{number_of_entry, has_left}
+use Rattle.legal_sessions.specs.Legal.{is_fault, is_in_doubt, leaves_behind_fault, FitsFault, may_write, commits_of, record_of_entry, records_logged, in_doubt_of, records_in_doubt, commit_at, commits_at}
 use Rattle.session_states.specs.Sessions.{SeatNow, SessionNow, with_seat, with_finished, with_fault}
-use Rattle.session_states.specs.Telling.{told_by_entry, BegunAt, begun_at, txs_at, RunningTx, turns_so_far}
-use Rattle.session_states.specs.UnderWay.{HasBegun, IsFinishedAs, AreFinishedAs, IsInStep, HasFaults, IsUnderWay}
+use Rattle.session_states.specs.Telling.{ToldTx, told_by_entry, BegunAt, begun_at, txs_at, RunningTx, turns_so_far}
+use Rattle.session_states.specs.UnderWay.{HasBegun, IsFinishedAs, AreFinishedAs, HasFinishOrder, IsInStep, HasFaults, IsUnderWay}
 use Rattle.session_states.specs.Moves.{Moves, entry_ran, entry_dropped, entry_by_host}
 use Rattle.session_states.proofs.Lasting.{logged_still, doubted_still}
-use Rattle.session_states.proofs.Told.{made_faults, tame_silent, set_same}
+use Rattle.session_states.proofs.Told.{steps_of, made_order, made_faults, tame_silent, silent_starts, set_same}
 use Rattle.session_states.proofs.Placed.{SeatAt}
-use Rattle.session_states.proofs.Faults.{desk_faults, running_calm, faults_left, faults_doubted, any_last, in_step_faulted}
+use Rattle.session_states.proofs.FinishOrder.{or_none, quiet_lefts, order_left, fits_doubted}
+use Rattle.session_states.proofs.Faults.{all_end, desk_faults, running_calm, faults_left, faults_doubted, any_last, in_step_faulted}
 use Rattle.session_states.proofs.Beginnings.{equal_self, txs_more, txs_still, first_apart}
 use Rattle.session_states.proofs.Passing.{found_first, left_apart, finished_still, begun_grows}
 use Rattle.session_states.proofs.Turning.{begun_leaves, told_left, leave_others}
-use Rattle.session_states.proofs.Moving.{there, is_there, made_there, seats_moved, still_shown, still_theirs, none_silent, apart_silent, own_here, others_left, waits_first, runs_first}
+use Rattle.session_states.proofs.Moving.{there, is_there, made_there, seats_moved, still_shown, still_theirs, still_behind, none_silent, apart_silent, own_here, others_left, waits_first, runs_first}
 
 abbrev Entry : Type 0
 Entry = FinishEntry Script Note
@@ -108,11 +111,23 @@ module _ (session : ScriptSession) (opening : Items) (now : SessionNow) (running
   same_acts : slice_set acts_left place ((at.own ++ lead) ++ ends) ≡ slice_set u.acts place (at.own ++ acts)
   same_acts = set_twice u.acts place (at.own ++ lead) ((at.own ++ lead) ++ ends) ∙ ap (slice_set u.acts place) (append_assoc at.own lead ends ∙ ap (λ l. at.own ++ l) together)
 
-  has_left : HasBegun cut.0 acts_left None (u.done ++ b ∷ []) rest
-  has_left = begun_leaves now.run cut.0 u.acts place before.client.number at.own running turns outcome kept told u.done rest b at.own_at cut.1.0 mid_run begun here
+  left_begun : HasBegun cut.0 acts_left None (u.done ++ b ∷ []) rest
+  left_begun = begun_leaves now.run cut.0 u.acts place before.client.number at.own running turns outcome kept told u.done rest b at.own_at cut.1.0 mid_run begun here
+
+  -- it leaves by one step, and then its client is told
+  abbrev leaving : List DeskStep
+  leaving = step.Leaves before.client.number b.tx.number outcome kept ∷ steps_of ends
+
+  order_left_by : r.order ≡ now.run.order ++ leaving
+  order_left_by = ap (λ (q : DeskRun). q.order) (made_order (place + 1) now.run r acts (made_there session opening now running place script before seat acts r u m)) ∙ ap (λ ts. now.run.order ++ ts) (turned turns)
+    where
+      turned : (ns : List (List Note)) → steps_of (map (TakesTurn b.tx.number) ns ++ Makes (step.Leaves before.client.number b.tx.number outcome kept) told ∷ ends) ≡ leaving
+      turned [] = refl
+      turned (n ∷ ns) = turned ns
 
   module _ (c : ClientState) (number : c.number ≡ before.client.number) (txs : c.txs ≡ txs_at place rest) (g : Grows c ends seat.client) (moves : ClientStep script.blocks before.client acts seat.client)
       (e : Entry) (is_number : e.number ≡ b.tx.number) (is_body : e.body ≡ b.tx.body) (is_told : record { started = b.tx.started; left = Some (outcome, kept); turns = turns_so_far running b.tx.number ++ turns } ≡ told_by_entry e)
+      (faulted : (is_in_doubt e.outcome || e.by_host) ≡ true → list_any is_fault now.run.order ≡ true)
       (faults : HasFaults r.order None (u.entries ++ e ∷ [])) (runs : RunsAlone ScriptReacts ScriptWrites now.items e) where
     draws : Draws (desk_run cut.0) (map (shown_tx (place + 1)) (txs_begun ends)) (desk_run r)
     draws =
@@ -124,7 +139,7 @@ module _ (session : ScriptSession) (opening : Items) (now : SessionNow) (running
 
     has_ended : HasBegun r (slice_set u.acts place (at.own ++ acts)) None (u.done ++ b ∷ []) later
     has_ended = subst (λ l. HasBegun r l None (u.done ++ b ∷ []) later) same_acts
-        (begun_grows cut.0 r acts_left place (at.own ++ lead) ends left_there cut.1.1 None (u.done ++ b ∷ []) rest has_left g.tame g.fresh draws)
+        (begun_grows cut.0 r acts_left place (at.own ++ lead) ends left_there cut.1.1 None (u.done ++ b ∷ []) rest left_begun g.tame g.fresh draws)
 
     each_ended : AreFinishedAs r.order (slice_set u.acts place (at.own ++ acts)) (u.done ++ b ∷ []) (u.entries ++ e ∷ [])
     each_ended =
@@ -139,6 +154,19 @@ module _ (session : ScriptSession) (opening : Items) (now : SessionNow) (running
         subst (λ l. AreFinishedAs r.order l (u.done ++ b ∷ []) (u.entries ++ e ∷ [])) same_acts
         (finished_still cut.0 r acts_left place (at.own ++ lead) ends left_there cut.1.1 (u.done ++ b ∷ []) (u.entries ++ e ∷ []) (none_silent ends (u.done ++ b ∷ []) (λ n. tame_silent n ends g.tame))
         (finished_end cut.0.order acts_left u.done u.entries b e old new))
+
+    left_alone : (other : ℕ) → has_left leaving other ≡ (b.tx.number == other)
+    left_alone other = ap (λ x. (b.tx.number == other) || x) (quiet_lefts other ends (tame_silent other ends g.tame)) ∙ or_none (b.tx.number == other)
+
+    order_ended : HasFinishOrder r.order (now.finish ++ e.number ∷ [])
+    order_ended = subst (λ ts. HasFinishOrder ts (now.finish ++ e.number ∷ [])) (sym order_left_by)
+        (subst (λ n. HasFinishOrder (now.run.order ++ leaving) (now.finish ++ n ∷ [])) (sym is_number)
+        (order_left now.run.order now.finish u.finish_order leaving (λ other. silent_starts other ends (tame_silent other ends g.tame)) b.tx.number left_alone))
+
+    behind_ended : AllByRecursion (FitsFault r.order) (u.entries ++ e ∷ [])
+    behind_ended = all_end (FitsFault r.order) u.entries e (still_behind session opening now running place script before seat acts r u m)
+        (λ k. subst (λ ts. leaves_behind_fault ts e.number ≡ true) (sym order_left_by) (subst (λ n. leaves_behind_fault (now.run.order ++ leaving) n ≡ true) (sym is_number)
+        (fits_doubted now.run.order leaving b.tx.number (faulted k) (ap (λ (x : ToldTx). x.left) begun.each.0.told) (left_alone b.tx.number ∙ equal_self b.tx.number))))
 
     pub ended_under_way : IsUnderWay session opening (with_finished e (with_seat place r seat now)) None
     ended_under_way = record {
@@ -168,6 +196,8 @@ module _ (session : ScriptSession) (opening : Items) (now : SessionNow) (running
               ∙ sym (map-append (commit_at r.order) (records_in_doubt u.entries) (records_in_doubt (e ∷ [])))
               ∙ ap (commits_at r.order) (sym (doubts_end u.entries e));
         };
+        finish_order = order_ended;
+        behind = behind_ended;
       };
       faults = faults;
     }
@@ -180,12 +210,12 @@ left_own place b rest next txs are here still = ap (filter (λ tx. not (is_tx b.
 
 module _ (sound : (q : DeskRun) → IsDeskRun q → IsSound (desk_run q)) (session : ScriptSession) (opening : Items) (now : SessionNow) (place : ℕ) (script : Client) (before seat : SeatNow) (told : Told) (ends : List Act) (r : DeskRun) (tx : ClientTx) (idle : before.client.tasks ≡ []) where
   finish_first : (t : RunningTx) (u : IsInStep session opening now (Some t)) (b : BegunAt) (rest : List BegunAt) (outcome : Outcome) (kept : Option SchemaData) (changes : List DeltaTree)
-      → u.waiting ≡ b ∷ rest → b.tx.number ≡ t.number → tx.started ≡ true → HasFaults r.order None (u.entries ++ entry_ran t changes kept outcome ∷ [])
+      → u.waiting ≡ b ∷ rest → b.tx.number ≡ t.number → tx.started ≡ true → (is_in_doubt outcome ≡ true → list_any is_fault now.run.order ≡ true) → HasFaults r.order None (u.entries ++ entry_ran t changes kept outcome ∷ [])
       → RunsOn ScriptReacts ScriptWrites (part_of (scope_of_body t.body) now.items) t.body t.turns changes kept false outcome
       → Moves session now place script before (Makes (step.Leaves before.client.number b.tx.number outcome kept) told ∷ ends) r seat → tx_at before.client b.tx.number ≡ Some tx
       → EndsTx script.blocks (without_tx before.client b.tx.number) b.tx.number outcome tx.kind ends seat.client
       → IsUnderWay session opening (with_finished (entry_ran t changes kept outcome) (with_seat place r seat now)) None
-  finish_first t u b rest outcome kept changes are same ran faults runs m found gone =
+  finish_first t u b rest outcome kept changes are same ran faulted faults runs m found gone =
       let acts = Makes (step.Leaves before.client.number b.tx.number outcome kept) told ∷ ends in
       let here = is_there session opening now (Some t) place script before seat acts r u m in
       let begun = subst (HasBegun now.run u.acts (Some t) u.done) are u.begun in
@@ -201,7 +231,7 @@ module _ (sound : (q : DeskRun) → IsDeskRun q → IsSound (desk_run q)) (sessi
       (FinishesTx tx b.tx.number outcome kept told ends seat.client idle found ran gone)
       (entry_ran t changes kept outcome) (sym same) (sym (ap (λ x. if x then t.body else b.tx.body) is_it) ∙ waits.body)
       (λ i. record { started = (waits.started ∙ is_it) i; left = Some (outcome, kept); turns = (append-nil (turns_so_far (Some t) b.tx.number) ∙ ap (λ x. if x then t.turns else []) is_it) i })
-      faults runs
+      (λ k. faulted (sym (or_none (is_in_doubt outcome)) ∙ k)) faults runs
 
   abbrev FinishesInto : RunningTx → List DeltaTree → Option SchemaData → Outcome → ℕ → Type 0
   FinishesInto t changes kept outcome number = Moves session now place script before (Makes (step.Leaves before.client.number number outcome kept) told ∷ ends) r seat → tx_at before.client number ≡ Some tx
@@ -209,18 +239,18 @@ module _ (sound : (q : DeskRun) → IsDeskRun q → IsSound (desk_run q)) (sessi
       → IsUnderWay session opening (with_finished (entry_ran t changes kept outcome) (with_seat place r seat now)) None
 
   finish_in_step : (t : RunningTx) (outcome : Outcome) (kept : Option SchemaData) (changes : List DeltaTree) (u : IsInStep session opening now (Some t)) → tx.started ≡ true
-      → HasFaults r.order None (u.entries ++ entry_ran t changes kept outcome ∷ [])
+      → (is_in_doubt outcome ≡ true → list_any is_fault now.run.order ≡ true) → HasFaults r.order None (u.entries ++ entry_ran t changes kept outcome ∷ [])
       → RunsOn ScriptReacts ScriptWrites (part_of (scope_of_body t.body) now.items) t.body t.turns changes kept false outcome → FinishesInto t changes kept outcome t.number
-  finish_in_step t outcome kept changes u ran faults runs =
+  finish_in_step t outcome kept changes u ran faulted faults runs =
       let f = runs_first t u.waiting u.begun.first in
-      subst (FinishesInto t changes kept outcome) f.1.1.1 (finish_first t u f.0 f.1.0 outcome kept changes f.1.1.0 f.1.1.1 ran faults runs)
+      subst (FinishesInto t changes kept outcome) f.1.1.1 (finish_first t u f.0 f.1.0 outcome kept changes f.1.1.0 f.1.1.1 ran faulted faults runs)
 
   pub finish_under_way : (t : RunningTx) (outcome : Outcome) (kept : Option SchemaData) (changes : List DeltaTree) → IsUnderWay session opening now (Some t) → tx.started ≡ true → is_in_doubt outcome ≡ false
       → RunsOn ScriptReacts ScriptWrites (part_of (scope_of_body t.body) now.items) t.body t.turns changes kept false outcome → FinishesInto t changes kept outcome t.number
   finish_under_way t outcome kept changes u ran sure runs m found gone =
       let acts = Makes (step.Leaves before.client.number t.number outcome kept) told ∷ ends in
       let calm = running_calm now.run.order t u.in_step.entries u.faults in
-      finish_in_step t outcome kept changes u.in_step ran
+      finish_in_step t outcome kept changes u.in_step ran (λ k. absurd (no (sym k ∙ sure)))
       (faults_left now.run.order r.order (Some t) u.in_step.entries u.faults (entry_ran t changes kept outcome) (made_faults before.client.number now.run r acts m.made) sure (λ k. absurd (no (sym k ∙ calm))) (λ k. refl))
       runs m found gone
     where
@@ -237,12 +267,12 @@ module _ (sound : (q : DeskRun) → IsDeskRun q → IsSound (desk_run q)) (sessi
   entry_unstarted number turns by_host outcome = record (entry_dropped number tx.body turns outcome) { by_host = by_host }
 
   drop_first : (u : IsInStep session opening now None) (b : BegunAt) (rest : List BegunAt) (turns : List (List Note)) (by_host : Bool) (outcome : Outcome)
-      → u.waiting ≡ b ∷ rest → tx.started ≡ false → NeverStarts ScriptReacts ScriptWrites tx.body turns [] None by_host outcome
+      → u.waiting ≡ b ∷ rest → tx.started ≡ false → ((is_in_doubt outcome || by_host) ≡ true → list_any is_fault now.run.order ≡ true) → NeverStarts ScriptReacts ScriptWrites tx.body turns [] None by_host outcome
       → HasFaults r.order None (u.entries ++ entry_unstarted b.tx.number turns by_host outcome ∷ [])
       → Moves session now place script before (map (TakesTurn b.tx.number) turns ++ Makes (step.Leaves before.client.number b.tx.number outcome None) told ∷ ends) r seat → tx_at before.client b.tx.number ≡ Some tx
       → EndsTx script.blocks (with_notes (without_tx before.client b.tx.number) (joined_lines turns)) b.tx.number outcome tx.kind ends seat.client
       → IsUnderWay session opening (with_finished (entry_unstarted b.tx.number turns by_host outcome) (with_seat place r seat now)) None
-  drop_first u b rest turns by_host outcome are waits never faults m found gone =
+  drop_first u b rest turns by_host outcome are waits faulted never faults m found gone =
       let acts = map (TakesTurn b.tx.number) turns ++ Makes (step.Leaves before.client.number b.tx.number outcome None) told ∷ ends in
       let here = is_there session opening now None place script before seat acts r u m in
       let begun = subst (HasBegun now.run u.acts None u.done) are u.begun in
@@ -257,7 +287,7 @@ module _ (sound : (q : DeskRun) → IsDeskRun q → IsSound (desk_run q)) (sessi
       (FinishesUnstarted tx b.tx.number turns outcome told ends seat.client idle found waits gone)
       (entry_unstarted b.tx.number turns by_host outcome) refl (ap (λ (x : ClientTx). x.body) (sym first.1))
       (λ i. record { started = begun.each.0.started i; left = Some (outcome, None); turns = turns })
-      faults never
+      faulted faults never
 
   abbrev DropsInto : List Entry → List (List Note) → Bool → Outcome → ℕ → Type 0
   DropsInto es turns by_host outcome number = HasFaults r.order None (es ++ entry_unstarted number turns by_host outcome ∷ [])
@@ -274,9 +304,18 @@ module _ (sound : (q : DeskRun) → IsDeskRun q → IsSound (desk_run q)) (sessi
       let acts = map (TakesTurn number) turns ++ Makes (step.Leaves before.client.number number outcome None) told ∷ ends in
       let f = waits_first sound now.run number u.in_step.waiting u.in_step.desk least u.in_step.begun.unfinished in
       let left = never_left tx.body turns by_host outcome never in
-      subst (DropsInto u.in_step.entries turns by_host outcome) f.1.1.1 (drop_first u.in_step f.0 f.1.0 turns by_host outcome f.1.1.0 waits never)
+      subst (DropsInto u.in_step.entries turns by_host outcome) f.1.1.1 (drop_first u.in_step f.0 f.1.0 turns by_host outcome f.1.1.0 waits (λ k. ended_by by_host left.1 own k) never)
       (faults_left now.run.order r.order None u.in_step.entries u.faults (entry_unstarted number turns by_host outcome) (made_faults before.client.number now.run r acts m.made) left.1 (λ k. left.0) own)
       m found gone
+    where
+      ended_by : (b : Bool) → is_in_doubt outcome ≡ false → (list_any is_fault now.run.order ≡ false → b ≡ false) → (is_in_doubt outcome || b) ≡ true → list_any is_fault now.run.order ≡ true
+      ended_by b sure own k = elim (cases_Bool (list_any is_fault now.run.order)) [
+        | inl is ↦ is
+        | inr out ↦ absurd (no (sym k ∙ (λ i. sure i || own out i)))
+      ]
+        where
+          no : true ≡ false → ⊥
+          no e = cc
 
   pub cancel_under_way : (number : ℕ) (turns : List (List Note)) (outcome : Outcome) → IsUnderWay session opening now None → least_of (desk_run now.run) ≡ Some number → tx.started ≡ false
       → NeverStarts ScriptReacts ScriptWrites tx.body turns [] None false outcome
@@ -297,20 +336,20 @@ module _ (sound : (q : DeskRun) → IsDeskRun q → IsSound (desk_run q)) (sessi
 
 -- ---- one whose commit met a fault
 module _ (sound : (q : DeskRun) → IsDeskRun q → IsSound (desk_run q)) (session : ScriptSession) (opening : Items) (now : SessionNow) (place : ℕ) (script : Client) (before seat : SeatNow) (told : Told) (ends : List Act) (r : DeskRun) (tx : ClientTx) (idle : before.client.tasks ≡ []) where
-  pub doubt_under_way : (t : RunningTx) (outcome : Outcome) (kept : Option SchemaData) (changes : List DeltaTree) → IsUnderWay session opening now (Some t) → tx.started ≡ true → is_in_doubt outcome ≡ true
+  pub doubt_under_way : (t : RunningTx) (outcome : Outcome) (kept : Option SchemaData) (changes : List DeltaTree) → IsUnderWay session opening now (Some t) → tx.started ≡ true → is_in_doubt outcome ≡ true → may_write t.body ≡ true
       → RunsOn ScriptReacts ScriptWrites (part_of (scope_of_body t.body) now.items) t.body t.turns changes kept false outcome
       → Moves session (with_fault now) place script before (Makes (step.Leaves before.client.number t.number outcome kept) told ∷ ends) r seat → tx_at before.client t.number ≡ Some tx
       → EndsTx script.blocks (without_tx before.client t.number) t.number outcome tx.kind ends seat.client
       → IsUnderWay session opening (with_finished (entry_ran t changes kept outcome) (with_seat place r seat now)) None
-  doubt_under_way t outcome kept changes u ran doubt runs m found gone =
+  doubt_under_way t outcome kept changes u ran doubt writes runs m found gone =
       let acts = Makes (step.Leaves before.client.number t.number outcome kept) told ∷ ends in
       let mid = with_step now.run step.Faults in
       let e = entry_ran t changes kept outcome in
       let calm = running_calm now.run.order t u.in_step.entries u.faults in
       let faulted : list_any is_fault r.order ≡ true = made_faults before.client.number mid r acts m.made ∙ any_last is_fault now.run.order step.Faults refl in
       let v = in_step_faulted session opening now (Some t) u.in_step (made_before before.client.number mid r acts m.made m.run) in
-      finish_in_step sound session opening (with_fault now) place script before seat told ends r tx idle t outcome kept changes v.0 ran
-      (subst (λ es. HasFaults r.order None (es ++ e ∷ [])) (sym v.1) (faults_doubted now.run.order r.order (Some t) u.in_step.entries u.faults e calm faulted doubt))
+      finish_in_step sound session opening (with_fault now) place script before seat told ends r tx idle t outcome kept changes v.0 ran (λ k. any_last is_fault now.run.order step.Faults refl)
+      (subst (λ es. HasFaults r.order None (es ++ e ∷ [])) (sym v.1) (faults_doubted now.run.order r.order (Some t) u.in_step.entries u.faults e calm faulted doubt writes))
       runs m found gone
 
 -- ---- what it leaves

@@ -1,5 +1,5 @@
 -- A session before any step.
-use Rattle.std.proofs.Common.{◌≡◌, ℕ, zero, suc, ◌+◌, List, [], ◌∷◌, slice_get, None, refl, sym, ap, subst}
+use Rattle.std.proofs.Common.{◌≡◌, ℕ, zero, suc, ◌+◌, true, false, List, [], ◌∷◌, slice_get, None, refl, sym, ap, subst}
 use Rattle.std.specs.List.Sorted.{IsPermutation}
 use Rattle.std.proofs.lemmas.List.Sorted.{IsPermutation-refl}
 use Rattle.idb_schema.specs.Schemas.{SchemaData}
@@ -59,6 +59,11 @@ fresh_under_way runs session schemas items shows = record {
       first = tt;
     };
     finished = record { each = tt; serial = tt; items = refl; finish = refl; commits = refl; doubts = refl };
+    finish_order = record { all = λ number. refl; fits = λ first second before listed. absurd (none (sym before)) };
+    behind = tt;
   };
   faults = record { doubts = tt; marked = refl; stopped = λ k. refl };
 }
+  where
+    none : true ≡ false → ⊥
+    none k = cc

@@ -11,7 +11,7 @@ use Rattle.idb_desk.specs.Durabilities.{durability_drawn}
 use Rattle.idb_desk.specs.Steps.{DeskRun, desk_run, with_step, IsDeskRun}
 use Rattle.idb_desk.proofs.Laws.{next_grows, durability_stays}
 use Rattle.record_bytes.specs.declared.records.LogRecord.{LogRecord}
-use Rattle.log_history.specs.Batching.{Commit, is_strict}
+use Rattle.log_history.specs.Batching.{is_strict}
 use Rattle.client_machine.specs.FinishEntries.{FinishEntry, did_commit}
 use Rattle.script_runs.specs.declared.notes.Note.{Note}
 use Rattle.script_handlers.specs.Handling.{Script}

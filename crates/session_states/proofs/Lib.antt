@@ -2,6 +2,7 @@ mod Told
 mod Placed
 mod Faults
 mod Beginnings
+mod FinishOrder
 mod Ending
 mod Fresh
 mod Passing
@@ -10,3 +11,4 @@ mod Moving
 mod Finishing
 mod Ready
 mod Lasting
+pub mod Laws

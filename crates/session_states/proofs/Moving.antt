@@ -24,12 +24,15 @@ use Rattle.client_ties.specs.Unfinished.{UnfinishedTx, unfinished_of, least_of, 
 use Rattle.client_ties.specs.Ties.{shown_tx}
 use Rattle.client_ties.proofs.Laws.{IsSound, Grows, notes_txs, least_unfinished}
 use Rattle.legal_sessions.specs.Histories.{AreOfClients, ShowsItems}
+use Rattle.legal_sessions.specs.SerialResults.{is_started, has_left}
+use Rattle.legal_sessions.specs.Legal.{FitsFault}
 use Rattle.session_states.specs.Sessions.{SeatNow, SessionNow, with_seat}
-use Rattle.session_states.specs.Telling.{BegunAt, begun_at, txs_at, shown_begun, RunningTx}
-use Rattle.session_states.specs.UnderWay.{IsSeatOf, AreSeats, IsFirstWaiting, HasBegun, IsInStep, HasFaults, IsUnderWay}
+use Rattle.session_states.specs.Telling.{ToldTx, BegunAt, begun_at, txs_at, shown_begun, RunningTx}
+use Rattle.session_states.specs.UnderWay.{IsSeatOf, AreSeats, IsFirstWaiting, HasBegun, HasFinishOrder, IsInStep, HasFaults, IsUnderWay}
 use Rattle.session_states.specs.Moves.{Moves}
 use Rattle.session_states.proofs.Lasting.{logged_still, doubted_still, durable_still}
-use Rattle.session_states.proofs.Told.{made_order, made_theirs, made_faults, IsSilent, tame_silent}
+use Rattle.session_states.proofs.Told.{steps_of, made_order, made_theirs, made_faults, IsSilent, tame_silent, silent_starts}
+use Rattle.session_states.proofs.FinishOrder.{quiet_lefts, order_still, order_started, fits_longer}
 use Rattle.session_states.proofs.Placed.{SeatAt, seat_at, seats_changed}
 use Rattle.session_states.proofs.Faults.{start_calm, running_calm, faults_still}
 use Rattle.session_states.proofs.Beginnings.{some_same, equal_self, unequal, txs_more, txs_still, AreApart, first_apart}
@@ -108,10 +111,17 @@ module _ (session : ScriptSession) (opening : Items) (now : SessionNow) (running
   pub still_theirs : AreOfClients (length session.clients) r.order
   still_theirs = made_theirs (length session.clients) (place + 1) now.run r acts (omega arith) (let k = slice_get_within session.clients place script m.script_at in omega (arith, k)) u.theirs made_there
 
+  -- no transaction starts or leaves
+  pub order_calm : ((number : ℕ) → is_started (steps_of acts) number ≡ false) → ((number : ℕ) → has_left (steps_of acts) number ≡ false) → HasFinishOrder r.order now.finish
+  order_calm none quiet = subst (λ (q : DeskRun). HasFinishOrder q.order now.finish) (sym (made_order (place + 1) now.run r acts made_there)) (order_still now.run.order now.finish u.finish_order (steps_of acts) none quiet)
+
+  pub still_behind : AllByRecursion (FitsFault r.order) u.entries
+  still_behind = subst (λ (q : DeskRun). AllByRecursion (FitsFault q.order) u.entries) (sym (made_order (place + 1) now.run r acts made_there)) (fits_longer now.run.order (steps_of acts) u.entries u.behind)
+
   -- the transactions that finished are as they were
-  pub assembled : (next : Option RunningTx) (later : List BegunAt) → AreSeats 0 r later session.clients (slice_set now.seats place seat) acts_now → HasBegun r acts_now next u.done later
+  pub assembled : (next : Option RunningTx) (later : List BegunAt) → HasFinishOrder r.order now.finish → AreSeats 0 r later session.clients (slice_set now.seats place seat) acts_now → HasBegun r acts_now next u.done later
       → AllByRecursion (λ (b : BegunAt). IsSilent b.tx.number acts) u.done → HasFaults r.order next u.entries → IsUnderWay session opening (with_seat place r seat now) next
-  assembled next later seats begun silent faults = record {
+  assembled next later ordered seats begun silent faults = record {
     in_step = record {
       acts = acts_now;
       done = u.done;
@@ -130,6 +140,8 @@ module _ (session : ScriptSession) (opening : Items) (now : SessionNow) (running
         commits = u.finished.commits ∙ sym (logged_still (place + 1) now.run r acts made_there m.run u.acts running u.done u.waiting u.begun u.entries u.finished.each);
         doubts = u.finished.doubts ∙ sym (doubted_still (place + 1) now.run r acts made_there m.run u.acts running u.done u.waiting u.begun u.entries u.finished.each);
       };
+      finish_order = ordered;
+      behind = still_behind;
     };
     faults = faults;
   }
@@ -139,6 +151,7 @@ module _ (session : ScriptSession) (opening : Items) (now : SessionNow) (running
       let draws = subst (λ n. Draws (desk_run now.run) (map (shown_tx n) (txs_begun acts)) (desk_run r)) is_there.number (g.desk now.run r m.made m.run) in
       let new = map (begun_at place) (txs_begun acts) in
       assembled running (u.waiting ++ new)
+      (order_calm (λ n. silent_starts n acts (tame_silent n acts g.tame)) (λ n. quiet_lefts n acts (tame_silent n acts g.tame)))
       (seats_moved (u.waiting ++ new) moves g.number (g.txs ∙ ap (λ txs. txs ++ txs_begun acts) is_there.txs ∙ sym (txs_more place u.waiting (txs_begun acts))) (λ at out. txs_still place at u.waiting (txs_begun acts) out))
       (begun_grows now.run r u.acts place there.own acts there.own_at made_there running u.done u.waiting u.begun g.tame g.fresh draws)
       (none_silent acts u.done (λ n. tame_silent n acts g.tame)) faults
@@ -176,6 +189,8 @@ module _ (session : ScriptSession) (opening : Items) (now : SessionNow) (place :
       let first = found_first place b rest tx apart.1 (ap (find (is_tx b.tx.number)) (sym own) ∙ found) in
       let moves = subst (ClientStep script.blocks before.client acts) (sym is) (StartsTx tx b.tx.number told idle found waits begins) in
       assembled session opening now None place script before seat acts r u m (Some (record { number = b.tx.number; body = tx.body; turns = [] })) (as_started b ∷ rest)
+      (subst (λ (q : DeskRun). HasFinishOrder q.order now.finish) (sym (made_order (place + 1) now.run r acts made))
+      (order_started now.run.order now.finish u.finish_order before.client.number b.tx.number (ap (λ (x : ToldTx). x.left) begun.each.0.told)))
       (seats_moved session opening now None place script before seat acts r u m (as_started b ∷ rest) moves (ap (λ (c : ClientState). c.number) is)
       (ap (λ (c : ClientState). c.txs) is ∙ ap (map (started_if b.tx.number)) (own ∙ own_here place b rest first.0)
       ∙ ap (λ t. (if t then record b.tx { started = true } else b.tx) ∷ map (started_if b.tx.number) (txs_at place rest)) (equal_self b.tx.number)
@@ -217,6 +232,7 @@ module _ (session : ScriptSession) (opening : Items) (now : SessionNow) (place :
       let moves = subst (ClientStep script.blocks before.client acts) (sym is) (RunsTurn tx b.tx.number notes idle found runs) in
       let same = notes_txs notes before.client in
       assembled session opening now (Some t) place script before seat acts r u m (Some (record t { turns = t.turns ++ notes ∷ [] })) (b ∷ rest)
+      (order_calm session opening now (Some t) place script before seat acts r u m (λ n. refl) (λ n. refl))
       (seats_moved session opening now (Some t) place script before seat acts r u m (b ∷ rest) moves (ap (λ (c : ClientState). c.number) is ∙ same.1)
       (ap (λ (c : ClientState). c.txs) is ∙ same.0 ∙ own) (λ other out. ap (txs_at other) (sym are)))
       (begun_turns now.run r u.acts place at.own t notes u.done rest b at.own_at made begun first.0)

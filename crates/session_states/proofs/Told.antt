@@ -137,7 +137,7 @@ no_start number (step.Starts client started) e = e
 no_start number (step.Leaves client left ended kept) e = refl
 no_start number step.Faults e = refl
 
-silent_starts : (number : ℕ) (acts : List Act) → IsSilent number acts → list_any (is_start_of number) (steps_of acts) ≡ false
+pub silent_starts : (number : ℕ) (acts : List Act) → IsSilent number acts → list_any (is_start_of number) (steps_of acts) ≡ false
 silent_starts number [] all = refl
 silent_starts number (Noted n ∷ acts) all = silent_starts number acts all.1
 silent_starts number (Makes t told ∷ acts) all = ap (λ b. b || list_any (is_start_of number) (steps_of acts)) (no_start number t all.0) ∙ silent_starts number acts all.1
@@ -157,7 +157,7 @@ leaving_behind number (step.Starts client started ∷ ts) ys none = leaving_behi
 leaving_behind number (step.Leaves client left ended kept ∷ ts) ys none = ap (λ o. if left == number then Some (ended, kept) else o) (leaving_behind number ts ys none)
 leaving_behind number (step.Faults ∷ ts) ys none = leaving_behind number ts ys none
 
-some_none : {X : Type 0} (x : X) → Some x ≡ None → ⊥
+pub some_none : {X : Type 0} (x : X) → Some x ≡ None → ⊥
 some_none x k = cc
 
 pub leaving_first : (number : ℕ) (xs ys : List DeskStep) → leaving_of xs number ≡ None → leaving_of (xs ++ ys) number ≡ leaving_of ys number

@@ -6,6 +6,7 @@
 --     HasBegun              the transactions that began: those that finished, and those that wait
 --     IsFinishedAs, AreFinishedAs   what became of those that finished is told by the steps and acts
 --     HasFinished           and is what their runs one by one give
+--     HasFinishOrder        those that left are those that finished, in an order that fits
 --     IsInStep              the clients, the desk, and what became of the transactions, whether or not the host is faulted
 --     is_doubted            a transaction ended in doubt
 --     HasFaults             the host is faulted exactly where one did, and nothing runs then
@@ -28,8 +29,8 @@ use Rattle.client_machine.specs.ClientStates.{fresh_client}
 use Rattle.client_machine.specs.ClientSteps.{ClientRuns}
 use Rattle.client_ties.specs.Unfinished.{unfinished_of, AreDrawn}
 use Rattle.legal_sessions.specs.Histories.{AreOfClients, ShowsItems}
-use Rattle.legal_sessions.specs.SerialResults.{number_of_entry}
-use Rattle.legal_sessions.specs.Legal.{is_fault, is_in_doubt, DoubtsFit, records_logged, records_in_doubt, commits_at}
+use Rattle.legal_sessions.specs.SerialResults.{number_of_entry, has_left}
+use Rattle.legal_sessions.specs.Legal.{is_listed, FinishFits, is_fault, is_in_doubt, DoubtsFit, FitsFault, records_logged, records_in_doubt, commits_at}
 use Rattle.session_states.specs.Sessions.{SeatNow, SessionNow}
 use Rattle.session_states.specs.Telling.{told_of, nothing_told, told_by_entry, BegunAt, begun_from, acts_at, txs_at, shown_begun, as_begun, RunningTx, is_running, body_so_far, told_so_far}
 
@@ -94,6 +95,10 @@ pub record HasFinished (opening : Items) (now : SessionNow) (acts : List (List A
   pub commits : now.commits ≡ commits_at now.run.order (records_logged entries)
   pub doubts : now.doubts ≡ commits_at now.run.order (records_in_doubt entries)
 
+pub record HasFinishOrder (order : List DeskStep) (finish : List ℕ) : Type 0 where
+  pub all : (number : ℕ) → has_left order number ≡ is_listed number finish
+  pub fits : FinishFits order finish
+
 -- ---- the session
 -- it stays so by each step of the desk with the acts that belong to it, the one that faults the host among them
 pub record IsInStep (session : ScriptSession) (opening : Items) (now : SessionNow) (running : Option RunningTx) : Type 0 where
@@ -107,6 +112,8 @@ pub record IsInStep (session : ScriptSession) (opening : Items) (now : SessionNo
   pub seats : AreSeats 0 now.run waiting session.clients now.seats acts
   pub begun : HasBegun now.run acts running done waiting
   pub finished : HasFinished opening now acts done entries
+  pub finish_order : HasFinishOrder now.run.order now.finish
+  pub behind : AllByRecursion (FitsFault now.run.order) entries
 
 -- ---- faults
 abbrev pub is_doubted : FinishEntry Script Note → Bool

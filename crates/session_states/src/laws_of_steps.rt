@@ -20,7 +20,7 @@ ghost use Rattle.client_machine.specs.ClientStates.{ClientTx, tx_at, without_tx,
 ghost use Rattle.client_machine.specs.ClientSteps.{Meets, EndsTx, may_begin, with_tasks};
 ghost use Rattle.client_machine.specs.TaskRuns.{RunsNow};
 ghost use Rattle.client_ties.specs.Unfinished.{least_of};
-ghost use Rattle.legal_sessions.specs.Legal.{is_in_doubt};
+ghost use Rattle.legal_sessions.specs.Legal.{is_in_doubt, may_write};
 ghost use Rattle.session_states.specs.Sessions.{SeatNow, SessionNow, with_seat, with_finished, with_fault};
 ghost use Rattle.session_states.specs.Telling.{RunningTx};
 ghost use Rattle.session_states.specs.UnderWay.{IsUnderWay};
@@ -110,7 +110,7 @@ pub fn step_laws()
         → EndsTx script.blocks (without_tx before.client t.number) t.number outcome tx.kind acts seat.client
         → RunsOn ScriptReacts ScriptWrites (part_of
         (scope_of_body t.body) now.items) t.body t.turns changes kept false outcome
-        → is_in_doubt outcome ≡ true
+        → is_in_doubt outcome ≡ true → may_write t.body ≡ true
         → IsUnderWay session opening (with_finished (entry_ran t changes kept outcome)
         (with_seat place r seat now)) None }
     ensures end_by_host { (session : ScriptSession) (opening : Items) (now : SessionNow)

@@ -5,7 +5,6 @@ use Rattle.script_statements.specs.declared.script.ScriptSession.{ScriptSession}
 use Rattle.legal_sessions.specs.Legal.{EndsSo}
 use Rattle.session_states.specs.Sessions.{IsAtEnd}
 use Rattle.office_moves.specs.Scenes.{DoneNow, done_of_book}
-use Rattle.session_driver.specs.Ending.{HadCause}
 use Rattle.session_driver.specs.Seats.{session_seen, IsDriving}
 use Rattle.session_driver.proofs.Driving.{begins_so}
 use Rattle.interrupted_sessions.specs.Interrupted.{HasCommits}
@@ -30,7 +29,6 @@ returns-clause-ends g c =
             (subst (λ (d : DoneNow). IsDriving c.of-of.result.value c.in_ok-desk-2.desk c.drive.new.seats.items d c.drive.new.databases) same c.in_ok-desk-2.ensures.driving);
         at_end = subst (λ (d : DoneNow). IsAtEnd (session_seen c.in_ok-desk-2.desk c.drive.new.seats.items d c.drive.new.databases)) same c.in_ok-desk-2.ensures.end;
         ends = subst (λ (d : DoneNow). EndsSo c.args.session.drop_end d.doubts c.end_log.new.book.end) same c.in_ok-end.ensures.ends;
-        cause = subst (λ (d : DoneNow). HadCause d.commits c.end_log.new.book.end) same c.in_ok-end.ensures.cause;
       },
     )
 

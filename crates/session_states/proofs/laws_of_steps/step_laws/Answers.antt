@@ -35,8 +35,8 @@ returns-clause-cancel c session opening now place script before seat acts r told
     cancel_under_way (sound_run c.desk_laws.ensures.numbers) session opening now place script before seat told acts r tx idle number turns outcome u least waits never m found gone
 
 pub returns-clause-doubt : goal.returns-clause-doubt
-returns-clause-doubt c session opening now t place script before seat acts r told tx outcome kept changes u m idle found ran gone runs doubt =
-    doubt_under_way (sound_run c.desk_laws.ensures.numbers) session opening now place script before seat told acts r tx idle t outcome kept changes u ran doubt runs m found gone
+returns-clause-doubt c session opening now t place script before seat acts r told tx outcome kept changes u m idle found ran gone runs doubt writes =
+    doubt_under_way (sound_run c.desk_laws.ensures.numbers) session opening now place script before seat told acts r tx idle t outcome kept changes u ran doubt writes runs m found gone
 
 pub returns-clause-end_by_host : goal.returns-clause-end_by_host
 returns-clause-end_by_host c session opening now place script before seat acts r told tx number turns outcome u faulted m least idle found waits gone never =
