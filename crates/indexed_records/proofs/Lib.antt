@@ -7,4 +7,5 @@ pub mod Lists
 pub mod ClashLaws
 pub mod NewIndex
 pub mod RecordPlaces
+pub mod Sameness
 pub mod Laws

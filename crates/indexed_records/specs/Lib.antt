@@ -8,3 +8,4 @@ pub mod Causes
 pub mod Taken
 pub mod Reading
 pub mod Ends
+pub mod Sameness

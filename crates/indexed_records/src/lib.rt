@@ -6,6 +6,7 @@
 
 mod building;
 mod clashing;
+mod comparing;
 mod copying;
 mod dropping;
 mod emptying;

@@ -2,8 +2,9 @@
 --     added_back, added_can             a record that came
 --     removed_back, removed_can         one that went
 --     replaced_back, replaced_can       one that got another value
+--     revalued_can                      one whose other value gives the same rows
 use Rattle.std.specs.Prelude.{◌≡◌, List, Some, None}
-use Rattle.std.proofs.Common.{sym, ap, ◌∙◌}
+use Rattle.std.proofs.Common.{refl, sym, ap, ◌∙◌}
 use Rattle.std.specs.FinMap.{get, insert, remove}
 use Rattle.clone_values.specs.Tree.{Tree}
 use Rattle.clone_values.specs.KeyTree.{KeyTree}
@@ -38,6 +39,14 @@ module _ (old new : Content) (k : KeyTree) (v : Tree) (info : new.info ≡ old.i
       ap (λ m. get m k) records ∙ there old.records k v,
       rows_now v new_rows are,
       rows_now w rows were ∙ ap (rows_in_indexes new.info.indexes k) (sym same),
+    )
+
+    pub revalued_can : (w : Tree) → rows_in_indexes old.info.indexes k w ≡ rows_in_indexes old.info.indexes k v → (u : Tree) → u ≡ w
+        → (x : Tree) × (get new.records k ≡ Some x) × (rows_in_indexes new.info.indexes k x ≡ rows_in_indexes new.info.indexes k u)
+    revalued_can w same u is = (
+      v,
+      ap (λ m. get m k) records ∙ there old.records k v,
+      sym (rows_now v (rows_in_indexes old.info.indexes k w) same) ∙ rows_now w (rows_in_indexes old.info.indexes k w) refl ∙ ap (rows_in_indexes new.info.indexes k) (sym is),
     )
 
   module _ (records : new.records ≡ remove old.records k) where

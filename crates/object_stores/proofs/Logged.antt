@@ -141,6 +141,7 @@ module _ {T R W : Type 0} where
   same_auto (change.Added key rows) content = refl
   same_auto (change.Removed key value rows) content = refl
   same_auto (change.Replaced key value rows new_rows) content = refl
+  same_auto (change.Revalued key value) content = refl
   same_auto (change.Cleared emptied removed rows) content = refl
   same_auto change.IndexAdded content = refl
   same_auto (change.IndexDropped dropped) content = refl

@@ -24,6 +24,7 @@ module _ {T R W : Type 0} where
   roomy_below (change.Added key rows) log h = h
   roomy_below (change.Removed key value rows) log h = h
   roomy_below (change.Replaced key value rows new_rows) log h = h
+  roomy_below (change.Revalued key value) log h = h
   roomy_below (change.Cleared emptied removed rows) log h = h.3
   roomy_below change.IndexAdded log h = h
   roomy_below (change.IndexDropped dropped) log h = h.1

@@ -20,6 +20,7 @@ abbrev pub undone : {T R W : Type 0} → Change T R W → Content → Content
 undone (change.Added key rows) content = record content { records = finite.remove content.records (key_tree_of key) }
 undone (change.Removed key value rows) content = record content { records = finite.insert content.records (key_tree_of key) (tree_of value) }
 undone (change.Replaced key value rows new_rows) content = record content { records = finite.insert content.records (key_tree_of key) (tree_of value) }
+undone (change.Revalued key value) content = record content { records = finite.insert content.records (key_tree_of key) (tree_of value) }
 undone (change.Cleared emptied removed rows) content = record content { records = emptied.records }
 undone change.IndexAdded content = record content { info = info_without_last content.info }
 undone (change.IndexDropped dropped) content = record content { info = info_with_index_at content.info dropped.place dropped.index }
@@ -34,6 +35,7 @@ abbrev pub IsUndoable : {T R W : Type 0} → Change T R W → Content → Type 0
 IsUndoable (change.Added key rows) content = (value : Tree) × (finite.get content.records (key_tree_of key) ≡ Some value) × (rows ≡ rows_in_indexes content.info.indexes (key_tree_of key) value)
 IsUndoable (change.Removed key value rows) content = (finite.get content.records (key_tree_of key) ≡ None) × (rows ≡ rows_in_indexes content.info.indexes (key_tree_of key) (tree_of value))
 IsUndoable (change.Replaced key value rows new_rows) content = (new : Tree) × (finite.get content.records (key_tree_of key) ≡ Some new) × (new_rows ≡ rows_in_indexes content.info.indexes (key_tree_of key) new) × (rows ≡ rows_in_indexes content.info.indexes (key_tree_of key) (tree_of value))
+IsUndoable (change.Revalued key value) content = (new : Tree) × (finite.get content.records (key_tree_of key) ≡ Some new) × (rows_in_indexes content.info.indexes (key_tree_of key) new ≡ rows_in_indexes content.info.indexes (key_tree_of key) (tree_of value))
 IsUndoable (change.Cleared emptied removed rows) content = emptied.rows ≡ row_sets content.info.indexes emptied.records
 IsUndoable change.IndexAdded content = 0 < length content.info.indexes
 IsUndoable (change.IndexDropped dropped) content = (dropped.place ≤ length content.info.indexes) × (dropped.rows ≡ index_rows dropped.index content.records) × (length content.info.indexes < dropped.width)

@@ -24,6 +24,11 @@ pub(crate) enum Change<T: Tables> {
         rows: RowLists,
         new_rows: RowLists,
     },
+    /// A record got another value, which gives the same rows: it had this one.
+    Revalued {
+        key: Key,
+        value: Value,
+    },
     /// All records went; they were these, and the changes before it needed so many records and rows.
     Cleared {
         emptied: Emptied<T>,

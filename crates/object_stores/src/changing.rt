@@ -1,5 +1,5 @@
 // The changes of a store, each logged with what undoes it.
-ghost use Rattle.std.specs.Prelude.{◌≡◌, ℕ, ◌+◌, ◌<◌, ◌≤◌, [], ◌∷◌, ◌++◌, length, slice_get, Some, false, OnOk};
+ghost use Rattle.std.specs.Prelude.{◌≡◌, ℕ, ◌+◌, ◌<◌, ◌≤◌, [], ◌∷◌, ◌++◌, length, slice_get, Some, true, false, OnOk};
 ghost use Rattle.std.specs.Vec.{vec_capacity};
 ghost use Rattle.std.specs.FinMap as finite;
 ghost use Rattle.clone_values.specs.KeyTree.{KeyTree};
@@ -7,6 +7,7 @@ ghost use Rattle.clone_values.specs.Tree.{Tree};
 ghost use Rattle.clone_values.specs.View.{key_tree_of, tree_of};
 ghost use Rattle.index_tables.specs.Unique.{is_broken};
 ghost use Rattle.range_reads.specs.Contents.{rows_in_indexes, rows_among, IsRecordAt, IsGapOf};
+ghost use Rattle.range_reads.specs.Sameness.{gives_same_rows};
 ghost use Rattle.object_stores.specs.IsStore.{IsStored};
 ghost use Rattle.object_stores.specs.Parts.{content_in, past_in, IsSound, IsReady};
 ghost use Rattle.object_stores.specs.declared.changes.Change.TheVariants as change;
@@ -120,6 +121,26 @@ pub(crate) fn replace<T: Tables>(
             new_rows: rows_copy,
         },
     );
+}
+
+/// Puts another value, which gives the same rows, into the record of this key, which stands at this place. The old value
+/// undoes it.
+pub(crate) fn revalue<T: Tables>(parts: &mut Parts<T>, place: usize, key: Key, value: Value)
+    requires sound { IsSound parts.old }
+    requires ready { IsReady parts.old 1 0 0 }
+    requires there { (old : Tree) × IsRecordAt parts.old.contents.records place (key_tree_of key) old }
+    requires same_rows { (k : KeyTree) (v : Tree)
+        → slice_get (finite.entries parts.old.contents.records) place ≡ Some (k, v)
+        → gives_same_rows parts.old.contents.info.indexes v (tree_of value) ≡ true }
+    requires fits { IsStored (key_tree_of key) (tree_of value) }
+    ensures sound { IsSound parts.new }
+    ensures content { content_in parts.new ≡ record (content_in parts.old) {
+      records = finite.insert parts.old.contents.records (key_tree_of key) (tree_of value);
+    } }
+    ensures past { past_in parts.new ≡ past_in parts.old ++ content_in parts.old ∷ [] }
+{
+    let old = parts.contents.revalue_at(place, value);
+    note(&mut parts.log, Change::Revalued { key, value: old });
 }
 
 /// Takes the record at this place out. Its rows undo it.

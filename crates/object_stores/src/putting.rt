@@ -6,13 +6,14 @@ ghost use Rattle.clone_values.specs.KeyTree.{KeyTree};
 ghost use Rattle.clone_values.specs.Tree.{Tree};
 ghost use Rattle.index_tables.specs.Unique.{is_broken};
 ghost use Rattle.range_reads.specs.Contents.{rows_in_indexes, rows_among, IsRecordAt, IsGapOf};
+ghost use Rattle.range_reads.specs.Sameness.{gives_same_rows};
 ghost use Rattle.object_stores.specs.IsStore.{IsStored};
 ghost use Rattle.object_stores.specs.Store.{KeepsPlaces};
 ghost use Rattle.object_stores.specs.Storing.{content_with, is_refused};
 ghost use Rattle.object_stores.specs.Parts.{content_in, past_in, IsSound, IsReady};
 
 use crate::changes::Parts;
-use crate::changing::{add, ready, replace};
+use crate::changing::{add, ready, replace, revalue};
 use clone_values::{Key, Value};
 use idb_base::NoMemory;
 use index_tables::Tables;
@@ -118,6 +119,48 @@ fn put_new<T: Tables>(
 
 /// Puts another value into the record that stands here, unless a unique index would have two rows of one key.
 fn put_over<T: Tables>(
+    alloc: Global,
+    parts: &mut Parts<T>,
+    place: usize,
+    key: Key,
+    value: Value,
+) -> Result<bool, NoMemory>
+    requires sound { IsSound parts.old }
+    requires there { (old : Tree) × IsRecordAt parts.old.contents.records place (key_tree_of key) old }
+    requires fits { IsStored (key_tree_of key) (tree_of value) }
+    ensures sound { IsSound parts.new }
+    ensures stored { IfOk result (λ b. b ≡ not (is_broken parts.old.contents.info.indexes
+        (finite.insert parts.old.contents.records (key_tree_of key) (tree_of value)))) }
+    ensures content { IfOk result (λ b. content_in parts.new
+        ≡ (if b then content_with (content_in parts.old) (key_tree_of key) (tree_of value)
+        else content_in parts.old)) }
+    ensures unchanged { OnErr result (content_in parts.new ≡ content_in parts.old) }
+    ensures past { KeepsPlaces (past_in parts.old) (content_in parts.old)
+        (past_in parts.new) (content_in parts.new) }
+{
+    if !keeps_rows(parts, place, &value)? {
+        return put_over_rows(alloc, parts, place, key, value);
+    }
+    ready(parts, 1, 0, 0)?;
+    revalue(parts, place, key, value);
+    Ok(true)
+}
+
+/// Whether the record that stands here has the same rows with this value.
+fn keeps_rows<T: Tables>(parts: &Parts<T>, place: usize, value: &Value) -> Result<bool, NoMemory>
+    requires { place < finite.len parts.now.contents.records }
+    ensures { IfOk result (λ same. (k : KeyTree) (v : Tree)
+        → slice_get (finite.entries parts.now.contents.records) place ≡ Some (k, v)
+        → same ≡ gives_same_rows parts.now.contents.info.indexes v (tree_of value.now)) }
+{
+    match parts.contents.record_at(place) {
+        Some((_, old)) => Ok(parts.contents.gives_same_rows(old, value)?),
+        None => unreachable!(),
+    }
+}
+
+/// The same where rows may come and go.
+fn put_over_rows<T: Tables>(
     alloc: Global,
     parts: &mut Parts<T>,
     place: usize,

@@ -42,6 +42,7 @@ fn undo<T: Tables>(parts: &mut Parts<T>, change: Change<T>)
             rows,
             new_rows,
         } => return undo_replaced(parts, &key, value, rows, &new_rows),
+        Change::Revalued { key, value } => return undo_revalued(parts, &key, value),
         Change::Cleared {
             emptied,
             removed,
@@ -102,6 +103,22 @@ fn undo_replaced<T: Tables>(
     match parts.contents.find(key) {
         Ok(place) => {
             drop(parts.contents.replace_at(place, value, new_rows, rows));
+        }
+        Err(_) => unreachable!(),
+    }
+}
+
+fn undo_revalued<T: Tables>(parts: &mut Parts<T>, key: &Key, value: Value)
+    requires { IsOff (change.Revalued key.now value) parts.old }
+    ensures sound { IsSound parts.new }
+    ensures content { content_in parts.new ≡ record (content_in parts.old) {
+      records = finite.insert parts.old.contents.records (key_tree_of key.now) (tree_of value);
+    } }
+    ensures log { parts.new.log.items ≡ parts.old.log.items }
+{
+    match parts.contents.find(key) {
+        Ok(place) => {
+            drop(parts.contents.revalue_at(place, value));
         }
         Err(_) => unreachable!(),
     }

@@ -6,9 +6,11 @@ ghost use Rattle.clone_values.specs.KeyTree.{KeyTree};
 ghost use Rattle.clone_values.specs.View.{key_tree_of, tree_of};
 ghost use Rattle.index_tables.specs.Unique.{is_broken};
 ghost use Rattle.indexed_records.specs.Contents.{IsRecordAt, IsGapOf, rows_in_indexes, rows_among, row_sets};
+ghost use Rattle.indexed_records.specs.Sameness.{gives_same_rows};
 
 use super::IndexedRecords;
 use crate::clashing::clashes_any;
+use crate::comparing::gives_same_in_each;
 use crate::copying::{copied_records, copied_tables};
 use crate::emptying::{Emptied, boxed};
 use crate::extracting::rows_in_each;
@@ -28,6 +30,14 @@ impl<T: Tables> IndexedRecords<T> {
             ≡ rows_in_indexes self.now.info.indexes (key_tree_of key.now) (tree_of value.now)) }
     {
         rows_in_each(self.alloc, &self.info.indexes, key, value)
+    }
+
+    /// Whether a record has the same rows with either value.
+    pub fn gives_same_rows(&self, one: &Value, other: &Value) -> Result<bool, NoMemory>
+        ensures { IfOk result (λ same. same
+            ≡ gives_same_rows self.now.info.indexes (tree_of one.now) (tree_of other.now)) }
+    {
+        gives_same_in_each(self.alloc, &self.info.indexes, one, other)
     }
 
     /// Whether a record with this key and these rows would give a key of a unique index a second row. The record of the
@@ -107,6 +117,27 @@ impl<T: Tables> IndexedRecords<T> {
     {
         self.row_spare -= new_rows.count();
         replace_in_each(&mut self.tables, old_rows, new_rows);
+        replace_record(&mut self.records, place, value)
+    }
+
+    /// Puts another value, which gives the same rows, into the record at this place, and gives the one that it had. It takes
+    /// no memory.
+    pub fn revalue_at(&mut self, place: usize, value: Value) -> Value
+        requires within { place < finite.len self.old.records }
+        requires same_rows { (k : KeyTree) (v : Tree)
+            → slice_get (finite.entries self.old.records) place ≡ Some (k, v)
+            → rows_in_indexes self.old.info.indexes k v
+            ≡ rows_in_indexes self.old.info.indexes k (tree_of value) }
+        ensures given { (k : KeyTree) (v : Tree)
+            → slice_get (finite.entries self.old.records) place ≡ Some (k, v)
+            → tree_of result ≡ v }
+        ensures records { (k : KeyTree) (v : Tree)
+            → slice_get (finite.entries self.old.records) place ≡ Some (k, v)
+            → self.new.records ≡ finite.insert self.old.records k (tree_of value) }
+        ensures info { self.new.info ≡ self.old.info }
+        ensures spare { self.new.record_spare ≡ self.old.record_spare }
+        ensures row_spare { self.new.row_spare ≡ self.old.row_spare }
+    {
         replace_record(&mut self.records, place, value)
     }
 

@@ -1,44 +1,21 @@
-use Rattle.std.proofs.Common.{◌≡◌, ◌+◌, ℕ, Some, slice_get, sym, ap, ◌∙◌, subst}
-use Rattle.std.specs.FinMap.{entries}
-use Rattle.clone_values.specs.Tree.{Tree}
-use Rattle.clone_values.specs.KeyTree.{KeyTree}
+use Rattle.std.proofs.Common.{not, sym, ap, ◌∙◌}
 use Rattle.clone_values.specs.View.{key_tree_of, tree_of}
-use Rattle.range_reads.specs.Contents.{rows_in_indexes, rows_among, IsRecordAt}
-use Rattle.object_stores.specs.Parts.{IsReady}
-use Rattle.object_stores.specs.Store.{Content}
-use Rattle.object_stores.specs.Storing.{content_with}
+use Rattle.range_reads.proofs.Laws.{told_same, unbroken_over}
+use Rattle.object_stores.specs.Parts.{content_in, log_in}
 use Rattle.object_stores.proofs.Off.{place_within}
+use Rattle.object_stores.proofs.Logged.{fine_now}
 use Rattle.object_stores.proofs.ChangeLemmas.{keeps_logged}
 use Rattle.object_stores.proofs.putting.put_over.Goals as goal
 
-pub rows_at-requires : goal.rows_at-requires
-rows_at-requires g c =
-    let within = place_within c.args.parts.now.contents.records c.args.place _ c.requires.there.1.stands in
-    (c.type_bounds.send-T-Records, (c.type_bounds.send-T-Rows, (c.type_bounds.sync-T-Records, (c.type_bounds.sync-T-Rows, within))))
-
-pub replace-requires-clause-copy : goal.replace-requires-clause-copy
-replace-requires-clause-copy g c = λ κs h. rw c.in-Some.is at c.in_ok-rows.ensures.copy
-
-pub replace-requires-clause-rows : goal.replace-requires-clause-rows
-replace-requires-clause-rows g c = λ κs h. rw c.in-Some.is at c.in_ok-rows.ensures.rows
-
-pub replace-requires-clause-unique : goal.replace-requires-clause-unique
-replace-requires-clause-unique g c = λ κs h. rw c.in-Some.is at c.in_ok-rows.ensures.unique
-
-pub replace-requires-clause-ready : goal.replace-requires-clause-ready
-replace-requires-clause-ready g c = λ κs h. subst (λ (n : ℕ). IsReady c.rows_ready.new.parts 1 0 (n + rows_among c.in-Some.rows)) c.count.ensures (rw c.in-Some.is at c.in_ok-rows.ensures.ready)
-
-pub replace-requires-clause-there : goal.replace-requires-clause-there
-replace-requires-clause-there g c = λ κs h. subst (λ (s : Content). (old : Tree) × IsRecordAt s.records c.args.place (key_tree_of c.args.key) old) (sym c.rows_ready.ensures.content) c.requires.there
-
-pub replace-requires-clause-old_rows : goal.replace-requires-clause-old_rows
-replace-requires-clause-old_rows g c = λ κs h. subst (λ (s : Content). (k : KeyTree) (v : Tree) → slice_get (entries s.records) c.args.place ≡ Some (k, v) → c.in_ok-old_rows.old_rows ≡ rows_in_indexes s.info.indexes k v) (sym c.rows_ready.ensures.content) c.in_ok-old_rows.ensures
+pub keeps_rows-requires-after_bounds : goal.keeps_rows-requires-after_bounds
+keeps_rows-requires-after_bounds g c κs within = place_within c.args.parts.now.contents.records c.args.place _ c.requires.there.1.stands
 
 pub returns-clause-stored : goal.returns-clause-stored
-returns-clause-stored g c = rw c.in-Some.is at c.in_ok-rows.ensures.stored
-
-pub returns-clause-content : goal.returns-clause-content
-returns-clause-content g c = c.replace.ensures.content ∙ ap (λ (s : Content). content_with s (key_tree_of c.args.key) (tree_of c.args.value)) c.rows_ready.ensures.content
+returns-clause-stored g c =
+    let old = c.args.parts.now in
+    let at = c.requires.there.1 in
+    let same = told_same old.contents.info.indexes c.requires.there.0 (tree_of c.args.value) (sym (c.in_ok-keeps_rows.ensures (key_tree_of c.args.key) c.requires.there.0 at.stands) ∙ c.if-not-branch.false) (key_tree_of c.args.key) in
+    sym (ap not (unbroken_over old.contents.records (key_tree_of c.args.key) c.requires.there.0 (tree_of c.args.value) at.found old.contents.info.indexes same ∙ (fine_now (log_in old) (content_in old) c.requires.sound.undo).unique))
 
 pub returns-clause-past : goal.returns-clause-past
-returns-clause-past g c = keeps_logged c.args.parts.now c.rows_ready.new.parts c.replace.new.parts c.rows_ready.ensures.log c.rows_ready.ensures.content c.replace.ensures.past
+returns-clause-past g c = keeps_logged c.args.parts.now c.ready.new.parts c.revalue.new.parts c.ready.ensures.log c.ready.ensures.content c.revalue.ensures.past

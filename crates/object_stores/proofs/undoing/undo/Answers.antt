@@ -18,6 +18,12 @@ undo_replaced-requires g c = (c.type_bounds.send-T-Records, (c.type_bounds.send-
 pub returns-in-Replaced-clause-content : goal.returns-in-Replaced-clause-content
 returns-in-Replaced-clause-content g c = rw c.in-Replaced.is c.undo_replaced.ensures.content
 
+pub undo_revalued-requires : goal.undo_revalued-requires
+undo_revalued-requires g c = (c.type_bounds.send-T-Records, (c.type_bounds.send-T-Rows, (c.type_bounds.sync-T-Records, (c.type_bounds.sync-T-Rows, rw c.in-Revalued.is at c.requires))))
+
+pub returns-in-Revalued-clause-content : goal.returns-in-Revalued-clause-content
+returns-in-Revalued-clause-content g c = rw c.in-Revalued.is c.undo_revalued.ensures.content
+
 pub undo_cleared-requires : goal.undo_cleared-requires
 undo_cleared-requires g c = (c.type_bounds.send-T-Records, (c.type_bounds.send-T-Rows, (c.type_bounds.sync-T-Records, (c.type_bounds.sync-T-Rows, rw c.in-Cleared.is at c.requires))))
 
