@@ -1,7 +1,7 @@
 -- Sums of sizes, and the marks at their groups.
 --     raised_marks, lowered_marks      the marks where a size is one more or less
 --     raise_keeps, lower_keeps         what is kept of the sizes stays true
-use Rattle.std.proofs.Common.{◌≡◌, ℕ, ◌+◌, ◌-◌, ◌*◌, ◌/◌, ◌<◌, ◌≤◌, inl, inr, List, length, take, set, get_or, sum, sym, ap, ◌∙◌, arith}
+use Rattle.std.proofs.Common.{◌≡◌, ℕ, ◌+◌, ◌-◌, ◌*◌, ◌^◌, ◌/◌, ◌<◌, ◌≤◌, inl, inr, List, length, take, set, get_or, sum, sym, ap, ◌∙◌, arith}
 use Rattle.std.proofs.lemmas.List.{get_or_read, take-set-le, get_or-take, length-set, length-take-le}
 use Rattle.std.proofs.lemmas.List.Sums.{sum_by-set}
 use Rattle.std.proofs.Math.Seq.{take-set-lt}
@@ -47,14 +47,15 @@ lowered_marks ns marks new i w z a e b r g h =
       | inr k ↦ (omega (arith, old.0, long), omega (arith, old.1, r g k (omega arith), sum_set_behind ns i (get_or ns i 0 - 1) (16 * g) (omega arith) (omega (arith, old.0))))
     ]
 
-pub raise_keeps : (ns marks new : List ℕ) (total room a b b' i n : ℕ) → IsMarked ns marks total room a b → i < length ns → n ≡ get_or ns i n
+pub raise_keeps : (ns marks new : List ℕ) (total room a b b' i n : ℕ) → IsMarked ns marks total room a b → total + 1 < 2 ^ 64 → i < length ns → n ≡ get_or ns i n
     → length new ≡ length marks → b' ≡ b → ((g : ℕ) → g < i / 16 + 1 → get_or new g 0 ≡ get_or marks g 0)
     → ((g : ℕ) → i / 16 + 1 ≤ g → g < length marks → get_or new g 0 ≡ get_or marks g 0 + 1)
     → IsMarked (set ns i (n + 1)) new (total + 1) room a b'
-raise_keeps ns marks new total room a b b' i n p w r l c below above =
+raise_keeps ns marks new total room a b b' i n p small w r l c below above =
     let e : n ≡ get_or ns i 0 = get_or_read ns i n w r 0 in
     rw e record {
       total_is = omega (arith, p.total_is, sum_set ns i (get_or ns i 0 + 1) w);
+      fits = small;
       marked = raised_marks ns marks new i w p.marked l below above;
       room_sizes = p.room_sizes;
       room_marks = omega (arith, p.room_marks, c);
@@ -70,6 +71,7 @@ lower_keeps ns marks new total room a b b' i n p w r z l c below above =
     let e : n ≡ get_or ns i 0 = get_or_read ns i n w r 0 in
     rw e record {
       total_is = omega (arith, p.total_is, sum_set ns i (get_or ns i 0 - 1) w);
+      fits = omega (arith, p.fits);
       marked = lowered_marks ns marks new i w z p.marked l below above;
       room_sizes = p.room_sizes;
       room_marks = omega (arith, p.room_marks, c);

@@ -10,6 +10,9 @@
 --     Row                   sizes of leaves
 --     AreMarks, IsMarked    what holds of the marks at the sizes
 --     IsPile                what holds of the leaves that a pile keeps
+--     IsFair                a place among others that leaves no more on either side than may stand there
+--     IsHead                the place of the first item of a leaf
+--     IsOnes                one less than a power of two
 use Rattle.std.specs.Prelude.{◌≡◌, ℕ, zero, suc, ◌+◌, ◌-◌, ◌*◌, ◌<◌, ◌≤◌, List, [], ◌∷◌, ◌++◌, length, take, drop, map, sum, slice_index, slice_index_or, ◌^◌}
 use Rattle.std.proofs.Props.{props}
 use Rattle.std.specs.List.{flat_map}
@@ -100,11 +103,30 @@ pub record IsPile {A : Type 0} (leaves : List (List A)) (sizes : Row) (free in_u
 abbrev pub AreMarks : List ℕ → List ℕ → Type 0
 AreMarks sizes marks = (g : ℕ) → g < length marks → (16 * g < length sizes) × (slice_index marks g ≡ sum (take (16 * g) sizes))
 
--- the total and the marks are those of the sizes, and there is room in both lists
+-- the total and the marks are those of the sizes, the total can be told, and there is room in both lists
 pub record IsMarked (sizes marks : List ℕ) (total room in_sizes in_marks : ℕ) : Type 0 where
   pub total_is : total ≡ sum sizes
+  pub fits : total < 2 ^ 64
   pub marked : AreMarks sizes marks
   pub room_sizes : room ≤ in_sizes
   pub room_marks : room ≤ in_marks
   pub used : length sizes ≤ room
   pub limit : room ≤ 2 ^ 40
+
+-- the place stands among those from low to end, and at most half of them stand before it and at most half behind it
+pub record IsFair (low end half place : ℕ) : Type 0 where
+  pub from : low ≤ place
+  pub below : place < end
+  pub left : place ≤ low + half
+  pub right : end ≤ place + half + 1
+
+-- at this place stands the first item of the leaf
+pub record IsHead (sizes : List ℕ) (leaf offset place : ℕ) : Type 0 where
+  pub within : leaf < length sizes
+  pub first : offset ≡ 0
+  pub some : 0 < slice_index sizes leaf
+  pub stands : place ≡ sum (take leaf sizes)
+
+-- all binary digits are 1
+abbrev pub IsOnes : ℕ → Type 0
+IsOnes n = (j : ℕ) × (n + 1 ≡ 2 ^ j)

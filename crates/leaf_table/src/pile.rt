@@ -1,10 +1,10 @@
 // Leaves in use with their sizes, and free leaves; what is done to one leaf or to two neighbours.
 ghost use Rattle.std.specs.Prelude.{◌≡◌, ℕ, ◌+◌, ◌-◌, ◌*◌, ◌^◌, ◌<◌, ◌≤◌, List, [], ◌∷◌, ◌++◌, length, take, drop, slice_get, slice_set, insert, remove, Some, OnOk, IsOk, vec_len, vec_capacity};
 ghost use Rattle.sorted_table.specs.Tables.{value_there, with_value};
-ghost use Rattle.leaf_table.specs.Leaves.{joined, before, leaf_at, excesses, split_leaf, join_leaf};
+ghost use Rattle.leaf_table.specs.Leaves.{joined, before, leaf_at, excesses, split_leaf, join_leaf, IsFair};
 
 use crate::leaf::{HALF, Leaf};
-use crate::sizes::{MOST_LEAVES, Seat, Sizes, Span};
+use crate::sizes::{Gap, MOST_LEAVES, Probe, Seat, Sizes, Span};
 use idb_base::NoMemory;
 use std::alloc::Global;
 use std::marker::Model;
@@ -89,17 +89,20 @@ impl<T: Drop> Pile<T> {
         self.sizes.seat(place)
     }
 
-    /// The same of a place that stands in these leaves, or behind them.
-    pub(crate) fn seat_between(&self, place: usize, span: Span) -> Seat
-        requires within { place < length (joined self.now.leaves) }
+    /// A place among these that leaves no more on either side than may stand there, and where it is.
+    pub(crate) fn probe(&self, gap: Gap, span: Span) -> Probe
+        requires order { gap.low < gap.end }
+        requires within { gap.end ≤ length (joined self.now.leaves) }
+        requires halves { gap.end ≤ gap.low + 2 * gap.half + 1 }
         requires first { span.first < length self.now.leaves }
         requires start { span.start ≡ before self.now.leaves span.first }
-        requires behind { span.start ≤ place }
-        ensures leaf { result.leaf < length self.now.leaves }
-        ensures place { place ≡ before self.now.leaves result.leaf + result.offset }
-        ensures offset { result.offset < length (leaf_at self.now.leaves result.leaf) }
+        requires behind { span.start ≤ gap.low }
+        ensures fair { IsFair gap.low gap.end gap.half result.place }
+        ensures leaf { result.seat.leaf < length self.now.leaves }
+        ensures place { result.place ≡ before self.now.leaves result.seat.leaf + result.seat.offset }
+        ensures offset { result.seat.offset < length (leaf_at self.now.leaves result.seat.leaf) }
     {
-        self.sizes.seat_between(place, span)
+        self.sizes.probe(gap, span)
     }
 
     /// How many items this leaf has.

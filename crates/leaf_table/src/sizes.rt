@@ -1,6 +1,6 @@
 // The sizes of the leaves, with a mark at each group of them, so that the leaf of a place is found fast.
-ghost use Rattle.std.specs.Prelude.{◌≡◌, ◌+◌, ◌-◌, ◌*◌, ◌^◌, ◌<◌, ◌≤◌, ℕ, [], ◌∷◌, ◌++◌, length, take, sum, slice_index, slice_set, insert, remove, vec_capacity, OnOk, ◌⊎◌};
-ghost use Rattle.leaf_table.specs.Leaves.{split_size, join_size, AreMarks};
+ghost use Rattle.std.specs.Prelude.{◌≡◌, ◌+◌, ◌-◌, ◌*◌, ◌^◌, ◌<◌, ◌≤◌, ℕ, [], ◌∷◌, ◌++◌, length, take, sum, slice_index, slice_set, insert, remove, vec_capacity, OnOk, IfSome, IsTrue, ◌⊎◌};
+ghost use Rattle.leaf_table.specs.Leaves.{split_size, join_size, AreMarks, IsFair, IsHead};
 
 use idb_base::NoMemory;
 use std::alloc::Global;
@@ -22,6 +22,21 @@ pub(crate) struct Span {
     pub(crate) first: usize,
     pub(crate) start: usize,
     pub(crate) last: usize,
+}
+
+/// Places among which one is chosen, and how many of them may stand on each side of it.
+#[derive(Clone, Copy)]
+pub(crate) struct Gap {
+    pub(crate) low: usize,
+    pub(crate) end: usize,
+    pub(crate) half: usize,
+}
+
+/// A place that was chosen, and where it is.
+#[derive(Clone, Copy)]
+pub(crate) struct Probe {
+    pub(crate) place: usize,
+    pub(crate) seat: Seat,
 }
 
 /// How many sizes stand between two marks.
@@ -133,6 +148,85 @@ impl Sizes {
         }
     }
 
+    /// A place among these that leaves no more on either side than may stand there: that of the first item of a leaf, which
+    /// costs no search, or else the middle.
+    pub(crate) fn probe(&self, gap: Gap, span: Span) -> Probe
+        requires order { gap.low < gap.end }
+        requires within { gap.end ≤ sum self.now.sizes }
+        requires halves { gap.end ≤ gap.low + 2 * gap.half + 1 }
+        requires first { span.first < length self.now.sizes }
+        requires start { span.start ≡ sum (take span.first self.now.sizes) }
+        requires behind { span.start ≤ gap.low }
+        ensures fair { IsFair gap.low gap.end gap.half result.place }
+        ensures leaf { result.seat.leaf < length self.now.sizes }
+        ensures place { result.place ≡ sum (take result.seat.leaf self.now.sizes) + result.seat.offset }
+        ensures offset { result.seat.offset < slice_index self.now.sizes result.seat.leaf }
+    {
+        match self.head_near(gap, span) {
+            Some(probe) => probe,
+            None => {
+                let place = gap.low + (gap.end - gap.low) / 2;
+                Probe {
+                    place,
+                    seat: self.seat_between(place, span),
+                }
+            }
+        }
+    }
+
+    /// The place of the first item of a leaf in the middle of these leaves, where that is a fair one.
+    fn head_near(&self, gap: Gap, span: Span) -> Option<Probe>
+        requires first { span.first < length self.now.sizes }
+        requires start { span.start ≡ sum (take span.first self.now.sizes) }
+        ensures fair { IfSome result (λ p. IsFair gap.low gap.end gap.half p.place) }
+        ensures head { IfSome result (λ p. IsHead self.now.sizes p.seat.leaf p.seat.offset p.place) }
+    {
+        let width = span.last.saturating_sub(span.first);
+        if width > 2 * GROUP {
+            self.head_of_group(gap, (span.first / 2 + span.last / 2) / GROUP)
+        } else if width > 1 {
+            self.head_of_leaf(gap, span, width / 2)
+        } else {
+            None
+        }
+    }
+
+    /// The place of the first item of this group, where there is one and that is a fair one.
+    fn head_of_group(&self, gap: Gap, group: usize) -> Option<Probe>
+        ensures fair { IfSome result (λ p. IsFair gap.low gap.end gap.half p.place) }
+        ensures head { IfSome result (λ p. IsHead self.now.sizes p.seat.leaf p.seat.offset p.place) }
+    {
+        if group >= self.marks.len() {
+            return None;
+        }
+        let place = self.marks[group];
+        let leaf = GROUP * group;
+        if is_fair(gap, place) && self.sizes[leaf] > 0 {
+            Some(head(leaf, place))
+        } else {
+            None
+        }
+    }
+
+    /// The same of the leaf that stands so many behind the first.
+    fn head_of_leaf(&self, gap: Gap, span: Span, behind: usize) -> Option<Probe>
+        requires first { span.first < length self.now.sizes }
+        requires start { span.start ≡ sum (take span.first self.now.sizes) }
+        ensures fair { IfSome result (λ p. IsFair gap.low gap.end gap.half p.place) }
+        ensures head { IfSome result (λ p. IsHead self.now.sizes p.seat.leaf p.seat.offset p.place) }
+    {
+        if behind >= self.sizes.len() - span.first {
+            return None;
+        }
+        let leaf = span.first + behind;
+        let place = sum_to(self.sizes.as_slice(), span.first, leaf, span.start);
+        if is_fair(gap, place) && self.sizes[leaf] > 0 {
+            Some(head(leaf, place))
+        } else {
+            None
+        }
+    }
+
     /// The size of this leaf.
     pub(crate) fn at(&self, leaf: usize) -> usize
         requires { leaf < length self.now.sizes }
@@ -211,6 +305,28 @@ impl Sizes {
     {
         let _ = self.sizes.remove(leaf);
         mark_from(&self.sizes, &mut self.marks, leaf);
+    }
+}
+
+/// Whether no more stand on either side of the place than may.
+fn is_fair(gap: Gap, place: usize) -> bool
+    ensures { IsTrue result → IsFair gap.low gap.end gap.half place }
+{
+    gap.low <= place
+        && place < gap.end
+        && place - gap.low <= gap.half
+        && gap.end - place - 1 <= gap.half
+}
+
+/// The first item of a leaf.
+fn head(leaf: usize, place: usize) -> Probe
+    ensures place { result.place ≡ place }
+    ensures leaf { result.seat.leaf ≡ leaf }
+    ensures offset { result.seat.offset ≡ 0 }
+{
+    Probe {
+        place,
+        seat: Seat { leaf, offset: 0 },
     }
 }
 

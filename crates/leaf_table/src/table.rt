@@ -2,11 +2,11 @@
 ghost use Rattle.std.specs.Prelude.{◌≡◌, ℕ, ◌+◌, ◌-◌, ◌*◌, ◌/◌, ◌^◌, ◌<◌, ◌≤◌, [], List, Some, length, take, drop, slice_get, slice_set, insert, remove, option_map, option_copied, OnOk, IfOk, IfErr, IsTrue, ◌⊎◌};
 ghost use Rattle.std.specs.FinMap.{put};
 ghost use Rattle.sorted_table.specs.Tables.{pair_seen, IsSorted, AreAbove, HasKeyAt, BelongsAt, value_there, with_value};
-ghost use Rattle.leaf_table.specs.Leaves.{joined, before, leaf_at, spare_of, AreLeaves, are_leaves_is_prop};
+ghost use Rattle.leaf_table.specs.Leaves.{joined, before, leaf_at, spare_of, AreLeaves, are_leaves_is_prop, IsOnes};
 
 use crate::leaf::{HALF, MOST};
 use crate::pile::Pile;
-use crate::sizes::{Seat, Span};
+use crate::sizes::{Gap, Seat, Span};
 use idb_base::NoMemory;
 use sorted_table::{Ordered, OrderedTable, Steps};
 use std::alloc::Global;
@@ -280,26 +280,47 @@ fn place_before<K: Ordered, V: Drop, L: Ledger>(
 {
     let mut low = 0;
     let mut end = high;
+    let mut most = ones_from(high);
     let mut span = Span {
         first: 0,
         start: 0,
         last: pile.len(),
     };
     while low < end {
-        let middle = low + (end - low) / 2;
-        let seat = pile.seat_between(middle, span);
-        match compared(key, &pair_in(pile, seat).0, steps) {
+        let half = most / 2;
+        let probe = pile.probe(Gap { low, end, half }, span);
+        match compared(key, &pair_in(pile, probe.seat).0, steps) {
             Ordering::Less => {
-                end = middle;
-                span.last = seat.leaf;
+                end = probe.place;
+                most = half;
+                span.last = end_of(probe.seat);
             }
             Ordering::Greater => {
-                low = middle + 1;
-                span.first = seat.leaf;
-                span.start = middle - seat.offset;
+                low = probe.place + 1;
+                most = half;
+                span.first = probe.seat.leaf;
+                span.start = probe.place - probe.seat.offset;
             }
-            Ordering::Equal => return Ok(middle),
+            Ordering::Equal => return Ok(probe.place),
         }
     }
     Err(low)
+}
+
+/// The leaf behind those that have an item before this seat.
+fn end_of(seat: Seat) -> usize {
+    seat.leaf.saturating_add(seat.offset.min(1))
+}
+
+/// The least number from this one on of which all binary digits are 1.
+fn ones_from(least: usize) -> usize
+    ensures ones { IsOnes result }
+    ensures least { least ≤ result }
+    ensures most { result ≤ 2 * least }
+{
+    let mut ones = 0;
+    while ones < least {
+        ones = 2 * ones + 1;
+    }
+    ones
 }
