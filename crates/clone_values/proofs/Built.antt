@@ -10,7 +10,7 @@ use Rattle.std.proofs.lemmas.List.Folds.{list_any-append}
 use Rattle.std.proofs.lemmas.List.{map-append, map-set, set-get_or, length-set}
 use Rattle.idb_base.specs.Lists.{IsWithinLimit, FitsOneMore}
 use Rattle.idb_base.specs.declared.limits.TheConstants.{GREATEST_LENGTH}
-use Rattle.clone_values.specs.Tree.{Tree, Trees, Members, list_of_trees, list_of_members, array, object, map_object, set_object, trees_of, members_of, pairs_of}
+use Rattle.clone_values.specs.Tree.{Tree, Trees, Members, PairTrees, list_of_trees, list_of_members, list_of_pairs, array, object, map_object, set_object, trees_of, members_of, pairs_of}
 use Rattle.clone_values.specs.Names.{names_of, is_rising, set_member}
 use Rattle.clone_values.specs.Sameness.{is_primitive, same_tree, repeats, put_once, put_pair, set_at_place}
 use Rattle.clone_values.specs.WellFormed.{is_value, are_values, member_values, pair_values, are_once, are_properties, is_within_limit, is_text, is_array_name, IsValue}
@@ -183,23 +183,63 @@ pub record ArrayFits (ts : Trees) (ms : Members) : Type 0 where
 
 pub array_fits : (ts : Trees) (ms : Members) → IsValue (array ts ms) → ArrayFits ts ms
 array_fits ts ms h =
-    let a = are_values ts in
-    let b = is_within_limit (list_of_trees ts) in
-    let c = member_values ms in
-    let d = are_properties (list_of_members ms) in
-    let e = list_all is_array_name (names_of (list_of_members ms)) in
+    let a = is_within_limit (list_of_trees ts) in
+    let b = are_properties (list_of_members ms) in
+    let c = list_all is_array_name (names_of (list_of_members ms)) in
+    let d = are_values ts in
+    let e = member_values ms in
     let abcd = first_so (a && b && c && d) e h in
     let abc = first_so (a && b && c) d abcd in
     let ab = first_so (a && b) c abc in
-    record { items = first_so a b ab; count = second_so a b ab; values = second_so (a && b) c abc; props = second_so (a && b && c) d abcd; names = second_so (a && b && c && d) e h }
+    record { items = second_so (a && b && c) d abcd; count = first_so a b ab; values = second_so (a && b && c && d) e h; props = second_so a b ab; names = second_so (a && b) c abc }
 
 pub array_again : (ts : Trees) (ms : Members) → ArrayFits ts ms → IsValue (array ts ms)
 array_again ts ms f =
-    let a = are_values ts in
-    let b = is_within_limit (list_of_trees ts) in
-    let c = member_values ms in
-    let d = are_properties (list_of_members ms) in
-    both_so (a && b && c && d) _ (both_so (a && b && c) d (pair_so a b c f.items f.count f.values) f.props) f.names
+    let a = is_within_limit (list_of_trees ts) in
+    let b = are_properties (list_of_members ms) in
+    let c = list_all is_array_name (names_of (list_of_members ms)) in
+    both_so (a && b && c && are_values ts) _ (both_so (a && b && c) _ (pair_so a b c f.count f.props f.names) f.items) f.values
+
+-- and that of an Object, of a Map and of a Set
+pub record ObjectFits (ms : Members) : Type 0 where
+  pub values : member_values ms ≡ true
+  pub props : are_properties (list_of_members ms) ≡ true
+
+pub object_fits : (ms : Members) → IsValue (object ms) → ObjectFits ms
+object_fits ms h = let a = are_properties (list_of_members ms) in record { values = second_so a (member_values ms) h; props = first_so a (member_values ms) h }
+
+pub object_again : (ms : Members) → ObjectFits ms → IsValue (object ms)
+object_again ms f = both_so (are_properties (list_of_members ms)) _ f.props f.values
+
+pub record MapFits (ps : PairTrees) : Type 0 where
+  pub pairs : pair_values ps ≡ true
+  pub count : is_within_limit (list_of_pairs ps) ≡ true
+  pub once : are_once (map (λ p. p.0) (list_of_pairs ps)) ≡ true
+
+pub map_fits : (ps : PairTrees) → IsValue (map_object ps) → MapFits ps
+map_fits ps h =
+    let a = is_within_limit (list_of_pairs ps) in
+    let b = are_once (map (λ p. p.0) (list_of_pairs ps)) in
+    let ab = first_so (a && b) (pair_values ps) h in
+    record { pairs = second_so (a && b) (pair_values ps) h; count = first_so a b ab; once = second_so a b ab }
+
+pub map_again : (ps : PairTrees) → MapFits ps → IsValue (map_object ps)
+map_again ps f = pair_so (is_within_limit (list_of_pairs ps)) (are_once (map (λ p. p.0) (list_of_pairs ps))) _ f.count f.once f.pairs
+
+pub record SetFits (ts : Trees) : Type 0 where
+  pub items : are_values ts ≡ true
+  pub count : is_within_limit (list_of_trees ts) ≡ true
+  pub once : are_once (list_of_trees ts) ≡ true
+
+pub set_fits : (ts : Trees) → IsValue (set_object ts) → SetFits ts
+set_fits ts h =
+    let a = is_within_limit (list_of_trees ts) in
+    let b = are_once (list_of_trees ts) in
+    let ab = first_so (a && b) (are_values ts) h in
+    record { items = second_so (a && b) (are_values ts) h; count = first_so a b ab; once = second_so a b ab }
+
+pub set_again : (ts : Trees) → SetFits ts → IsValue (set_object ts)
+set_again ts f = pair_so (is_within_limit (list_of_trees ts)) (are_once (list_of_trees ts)) _ f.count f.once f.items
 
 pub pushed : (ts : List Tree) (ms : Members) (t : Tree) → IsValue (array (trees_of ts) ms) → IsValue t → FitsOneMore ts → IsValue (array (trees_of (ts ++ t ∷ [])) ms)
 pushed ts ms t h e fits =
@@ -215,31 +255,35 @@ pushed ts ms t h e fits =
 
 pub put : (ts : List Tree) (t : Tree) → IsValue (set_object (trees_of ts)) → IsValue t → FitsOneMore ts → IsValue (set_object (trees_of (put_once ts t)))
 put ts t h e fits =
-    let a = are_values (trees_of ts) in
+    let f = set_fits (trees_of ts) h in
     let new = put_once ts t in
-    let whole : (a && is_within_limit ts && are_once ts) ≡ true = sym (ap (λ us. a && is_within_limit us && are_once us) (trees_again ts)) ∙ h in
-    let kept = put_kept ts t (first_so a _ (first_so (a && is_within_limit ts) (are_once ts) whole), second_so (a && is_within_limit ts) (are_once ts) whole) e in
-    ap (λ us. are_values (trees_of new) && is_within_limit us && are_once us) (trees_again new)
-    ∙ pair_so (are_values (trees_of new)) (is_within_limit new) (are_once new) kept.0 (within new (omega (arith, put_longer ts t, fits))) kept.1
+    let kept = put_kept ts t (f.items, ap are_once (sym (trees_again ts)) ∙ f.once) e in
+    set_again (trees_of new) (record {
+      items = kept.0;
+      count = ap is_within_limit (trees_again new) ∙ within new (omega (arith, put_longer ts t, fits));
+      once = ap are_once (trees_again new) ∙ kept.1;
+    })
 
 pub entered : (ps : List (Tree × Tree)) (k v : Tree) → IsValue (map_object (pairs_of ps)) → IsValue k → IsValue v → FitsOneMore ps → IsValue (map_object (pairs_of (put_pair ps k v)))
 entered ps k v h e f fits =
-    let a = pair_values (pairs_of ps) in
+    let m = map_fits (pairs_of ps) h in
     let new = put_pair ps k v in
-    let keys : List (Tree × Tree) → List Tree = map (λ p. p.0) in
-    let whole : (a && is_within_limit ps && are_once (keys ps)) ≡ true = sym (ap (λ qs. a && is_within_limit qs && are_once (keys qs)) (pairs_again ps)) ∙ h in
-    let kept = pair_kept ps k v (first_so a _ (first_so (a && is_within_limit ps) (are_once (keys ps)) whole), second_so (a && is_within_limit ps) (are_once (keys ps)) whole) e f in
-    ap (λ qs. pair_values (pairs_of new) && is_within_limit qs && are_once (keys qs)) (pairs_again new)
-    ∙ pair_so (pair_values (pairs_of new)) (is_within_limit new) (are_once (keys new)) kept.0 (within new (omega (arith, pair_longer ps k v, fits))) kept.1
+    let keys : List (Tree × Tree) → Bool = λ qs. are_once (map (λ p. p.0) qs) in
+    let kept = pair_kept ps k v (m.pairs, ap keys (sym (pairs_again ps)) ∙ m.once) e f in
+    map_again (pairs_of new) (record {
+      pairs = kept.0;
+      count = ap is_within_limit (pairs_again new) ∙ within new (omega (arith, pair_longer ps k v, fits));
+      once = ap keys (pairs_again new) ∙ kept.1;
+    })
 
 pub set_in_object : (ms : List (List ℕ × Tree)) (n : List ℕ) (v : Tree) → IsValue (object (members_of ms)) → is_text n ≡ true → IsValue v → FitsOneMore ms → IsValue (object (members_of (set_member ms n v)))
 set_in_object ms n v h text e fits =
-    let a = member_values (members_of ms) in
+    let f = object_fits (members_of ms) h in
     let new = set_member ms n v in
-    let whole : (a && are_properties ms) ≡ true = sym (ap (λ ns. a && are_properties ns) (members_again ms)) ∙ h in
-    ap (λ ns. member_values (members_of new) && are_properties ns) (members_again new)
-    ∙ both_so (member_values (members_of new)) (are_properties new) (values_set ms n v (first_so a (are_properties ms) whole) e)
-    (properties_set ms n v (second_so a (are_properties ms) whole) text (omega (arith, set_longer ms n v, fits)))
+    object_again (members_of new) (record {
+      values = values_set ms n v f.values e;
+      props = ap are_properties (members_again new) ∙ properties_set ms n v (sym (ap are_properties (members_again ms)) ∙ f.props) text (omega (arith, set_longer ms n v, fits));
+    })
 
 pub set_in_array : (ts : Trees) (ms : List (List ℕ × Tree)) (n : List ℕ) (v : Tree) → IsValue (array ts (members_of ms)) → is_text n ≡ true → is_array_name n ≡ true → IsValue v → FitsOneMore ms
     → IsValue (array ts (members_of (set_member ms n v)))

@@ -1,4 +1,5 @@
 pub mod Tree
+pub mod Parts
 pub mod KeyTree
 pub mod View
 pub mod Falls

@@ -1,10 +1,12 @@
 -- What a value is, how deep it is, and what can be cloned.
 --     is_value, IsValue     well formed: the ranges, names and sizes
+--     holds_function        a Function is in the value
 --     depth_of              how deep a value is
 --     IsCloneable           cloning doesn't refuse it (HTML, StructuredSerializeForStorage)
-use Rattle.std.specs.Prelude.{◌≡◌, ℕ, ◌+◌, ◌≤◌, Bool, true, false, ◌||◌, max}
+use Rattle.std.specs.Prelude.{◌≡◌, ℕ, ◌+◌, ◌≤◌, Bool, true, false, max}
 use Rattle.idb_base.specs.declared.limits.TheConstants.{GREATEST_DEPTH}
 use Rattle.clone_values.specs.Tree.{Tree, Trees, Members, PairTrees, array, object, map_object, set_object, function, no_trees, tree_more, no_members, member_more, no_pairs, pair_more}
+use Rattle.clone_values.specs.Parts.{any_part, any_item, any_property, any_pair}
 
 -- ---- depth: a value without members has depth 1, any other 1 more than the greatest depth of its members
 abbrev mutual
@@ -29,26 +31,22 @@ abbrev mutual
   pairs_depth (pair_more s t ps) = max (max (depth_of s) (depth_of t)) (pairs_depth ps)
 
 -- ---- whether a Function is in the value
-abbrev mutual
-  pub holds_function : Tree → Bool
-  holds_function (array ts ms) = trees_hold_function ts || members_hold_function ms
-  holds_function (object ms) = members_hold_function ms
-  holds_function (map_object ps) = pairs_hold_function ps
-  holds_function (set_object ts) = trees_hold_function ts
-  holds_function function = true
-  holds_function _ = false
+abbrev pub is_function : Tree → Bool
+is_function function = true
+is_function _ = false
 
-  pub trees_hold_function : Trees → Bool
-  trees_hold_function no_trees = false
-  trees_hold_function (tree_more t ts) = holds_function t || trees_hold_function ts
+abbrev pub holds_function : Tree → Bool
+holds_function t = any_part is_function t
 
-  pub members_hold_function : Members → Bool
-  members_hold_function no_members = false
-  members_hold_function (member_more n t ms) = holds_function t || members_hold_function ms
+-- whether one is in these items, properties or pairs
+abbrev pub trees_hold_function : Trees → Bool
+trees_hold_function ts = any_item is_function ts
 
-  pub pairs_hold_function : PairTrees → Bool
-  pairs_hold_function no_pairs = false
-  pairs_hold_function (pair_more s t ps) = holds_function s || holds_function t || pairs_hold_function ps
+abbrev pub members_hold_function : Members → Bool
+members_hold_function ms = any_property is_function ms
+
+abbrev pub pairs_hold_function : PairTrees → Bool
+pairs_hold_function ps = any_pair is_function ps
 
 -- no Function is in the value, and its depth is at most the greatest
 abbrev pub IsCloneable : Tree → Type 0

@@ -1,5 +1,6 @@
 -- Well formed values: the ranges, sizes, names and members that a value keeps to.
 --     is_value, IsValue     the rules for the whole tree
+--     is_well_made          the rules for one value of it, whatever stands in its lists
 --     is_int, is_date       the ranges of numbers and of dates
 --     is_text, is_byte_string      texts and byte strings of a stored size
 --     are_once              no primitive stands twice
@@ -10,7 +11,8 @@ use Rattle.std.specs.Str.{is_utf8}
 use Rattle.std.specs.Ordering.{int_cmp, is_le}
 use Rattle.std.specs.Cmp.Lexicographic.{pointwise}
 use Rattle.idb_base.specs.declared.limits.TheConstants.{GREATEST_LENGTH, GREATEST_INT, LEAST_INT, GREATEST_DATE, LEAST_DATE}
-use Rattle.clone_values.specs.Tree.{Tree, Trees, Members, PairTrees, int, text, date, bytes, array, object, map_object, set_object, no_trees, tree_more, no_members, member_more, no_pairs, pair_more, list_of_trees, list_of_members, list_of_pairs}
+use Rattle.clone_values.specs.Tree.{Tree, Trees, Members, PairTrees, int, text, date, bytes, array, object, map_object, set_object, list_of_trees, list_of_members, list_of_pairs}
+use Rattle.clone_values.specs.Parts.{every_part, every_item, every_property, every_pair}
 use Rattle.clone_values.specs.Names.{names_of, is_rising}
 use Rattle.clone_values.specs.Sameness.{repeats}
 
@@ -57,29 +59,30 @@ is_array_name n = not (pointwise nat_eq n (codes "length")) && not (are_digits n
 abbrev pub are_properties : List (List ℕ × Tree) → Bool
 are_properties ms = is_within_limit ms && list_all is_text (names_of ms) && is_rising (names_of ms)
 
-abbrev mutual
-  pub is_value : Tree → Bool
-  is_value (int n) = is_int n
-  is_value (date d) = is_date d
-  is_value (text s) = is_text s
-  is_value (bytes b) = is_byte_string b
-  is_value (array ts ms) = are_values ts && is_within_limit (list_of_trees ts) && member_values ms && are_properties (list_of_members ms) && list_all is_array_name (names_of (list_of_members ms))
-  is_value (object ms) = member_values ms && are_properties (list_of_members ms)
-  is_value (map_object ps) = pair_values ps && is_within_limit (list_of_pairs ps) && are_once (map (λ p. p.0) (list_of_pairs ps))
-  is_value (set_object ts) = are_values ts && is_within_limit (list_of_trees ts) && are_once (list_of_trees ts)
-  is_value _ = true
+-- the value by itself, whatever stands in its lists
+abbrev pub is_well_made : Tree → Bool
+is_well_made (int n) = is_int n
+is_well_made (date d) = is_date d
+is_well_made (text s) = is_text s
+is_well_made (bytes b) = is_byte_string b
+is_well_made (array ts ms) = is_within_limit (list_of_trees ts) && are_properties (list_of_members ms) && list_all is_array_name (names_of (list_of_members ms))
+is_well_made (object ms) = are_properties (list_of_members ms)
+is_well_made (map_object ps) = is_within_limit (list_of_pairs ps) && are_once (map (λ p. p.0) (list_of_pairs ps))
+is_well_made (set_object ts) = is_within_limit (list_of_trees ts) && are_once (list_of_trees ts)
+is_well_made _ = true
 
-  pub are_values : Trees → Bool
-  are_values no_trees = true
-  are_values (tree_more t ts) = is_value t && are_values ts
+abbrev pub is_value : Tree → Bool
+is_value t = every_part is_well_made t
 
-  pub member_values : Members → Bool
-  member_values no_members = true
-  member_values (member_more n t ms) = is_value t && member_values ms
+-- the same of every value in a list of items, of properties or of pairs
+abbrev pub are_values : Trees → Bool
+are_values ts = every_item is_well_made ts
 
-  pub pair_values : PairTrees → Bool
-  pair_values no_pairs = true
-  pair_values (pair_more s t ps) = is_value s && is_value t && pair_values ps
+abbrev pub member_values : Members → Bool
+member_values ms = every_property is_well_made ms
+
+abbrev pub pair_values : PairTrees → Bool
+pair_values ps = every_pair is_well_made ps
 
 -- the tree is a well formed value
 abbrev pub IsValue : Tree → Type 0

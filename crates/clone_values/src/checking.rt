@@ -5,7 +5,7 @@ ghost use Rattle.clone_values.specs.Tree.{trees_of, members_of, pairs_of};
 ghost use Rattle.clone_values.specs.View.{tree_of};
 ghost use Rattle.clone_values.specs.Names.{names_of};
 ghost use Rattle.clone_values.specs.Sameness.{repeats};
-ghost use Rattle.clone_values.specs.WellFormed.{is_value, are_values, member_values, pair_values, is_int, is_date, are_once, is_array_name, are_properties, is_within_limit, are_digits, is_text, is_byte_string};
+ghost use Rattle.clone_values.specs.WellFormed.{is_value, is_well_made, are_values, member_values, pair_values, is_int, is_date, are_once, is_array_name, are_properties, is_within_limit, are_digits, is_text, is_byte_string};
 
 use crate::putting::repeats;
 use crate::small_lists::Text;
@@ -15,9 +15,25 @@ use idb_base::{GREATEST_DATE, GREATEST_INT, GREATEST_LENGTH, LEAST_DATE, LEAST_I
 /// Whether the value keeps to the ranges of numbers and dates, the sizes, the names of properties, and primitive
 /// members that stand once; it takes no memory.
 #[cycle(well_formed)]
-#[tactic(auto, using(crate::specs::Falls::smaller_tree, crate::proofs::Lists::trees_again, crate::proofs::Lists::members_again, crate::proofs::Lists::pairs_again))]
+#[tactic(auto, using(crate::specs::Falls::smaller_tree))]
 pub fn well_formed(v: &Value) -> bool
     ensures { result ≡ is_value (tree_of v.now) }
+{
+    match v {
+        Value::Array(items, props) => {
+            is_well_made(v) && items_well_formed(items) && props_well_formed(props)
+        }
+        Value::Object(props) => is_well_made(v) && props_well_formed(props),
+        Value::Map(pairs) => is_well_made(v) && pairs_well_formed(pairs),
+        Value::Set(items) => is_well_made(v) && items_well_formed(items),
+        _ => is_well_made(v),
+    }
+}
+
+/// Whether the value by itself keeps to the rules, whatever stands in its lists.
+#[tactic(auto, using(crate::proofs::Lists::trees_again, crate::proofs::Lists::members_again, crate::proofs::Lists::pairs_again))]
+fn is_well_made(v: &Value) -> bool
+    ensures { result ≡ is_well_made (tree_of v.now) }
 {
     match v {
         Value::Int(n) => is_int(*n),
@@ -25,19 +41,11 @@ pub fn well_formed(v: &Value) -> bool
         Value::Text(s) => is_text(s),
         Value::Bytes(b) => is_byte_string(b.as_slice()),
         Value::Array(items, props) => {
-            items_well_formed(items)
-                && items.len() <= GREATEST_LENGTH
-                && props_well_formed(props)
-                && are_properties(props)
-                && are_array_names(props)
+            items.len() <= GREATEST_LENGTH && are_properties(props) && are_array_names(props)
         }
-        Value::Object(props) => props_well_formed(props) && are_properties(props),
-        Value::Map(pairs) => {
-            pairs_well_formed(pairs) && pairs.len() <= GREATEST_LENGTH && keys_are_once(pairs)
-        }
-        Value::Set(items) => {
-            items_well_formed(items) && items.len() <= GREATEST_LENGTH && items_are_once(items)
-        }
+        Value::Object(props) => are_properties(props),
+        Value::Map(pairs) => pairs.len() <= GREATEST_LENGTH && keys_are_once(pairs),
+        Value::Set(items) => items.len() <= GREATEST_LENGTH && items_are_once(items),
         _ => true,
     }
 }

@@ -1,3 +1,4 @@
+pub mod Ahead
 pub mod Costs
 pub mod Directions
 pub mod Further

@@ -6,8 +6,9 @@
 --     forward_first, back_last      the first of those that are near, or the last, decides
 --     forward_nearest, back_nearest, back_none      the nearest place, from the place where a halving ends
 --     first_by                the first member of a key
+--     split_here              two members side by side that tell the place
 use Rattle.std.proofs.Common.{◌≡◌, ℕ, zero, suc, ◌+◌, ◌<◌, ◌≤◌, Bool, true, false, if◌then◌else◌, List, [], ◌∷◌, length, Option, Some, None, arith, refl, sym, ap, ◌∙◌, subst}
-use Rattle.std.specs.Prelude.{not, ◌&&◌, slice_get}
+use Rattle.std.specs.Prelude.{not, ◌&&◌, ◌-◌, slice_get, option_map}
 use Rattle.std.specs.List.{position}
 use Rattle.std.specs.Option.{option_and_then}
 use Rattle.std.specs.declared.cmp.Ordering.{Ordering}
@@ -23,8 +24,8 @@ use Rattle.idb_keys.specs.declared.names.Direction.TheVariants.{NextUnique}
 use Rattle.idb_keys.specs.KeyRange.{Range, every_key}
 use Rattle.index_tables.specs.Rows.{RowTree, row_cmp}
 use Rattle.index_tables.specs.Orders.{row_cmp_total}
-use Rattle.index_tables.specs.Halves.{IsSplitAt}
-use Rattle.index_tables.proofs.Laws.{Rises}
+use Rattle.index_tables.specs.Halves.{IsSplitAt, IsSplitBetween, StaysPassed}
+use Rattle.sorted_table.proofs.Laws.{unsplit, split_below, split_above}
 use Rattle.idb_cursors.specs.Cursors.{TurnData, is_forward, meets, last_position, first_of_key}
 use Rattle.idb_cursors.specs.Seeking.{ends, is_near, is_behind, place_within, nearest_place}
 use Rattle.idb_cursors.specs.Views.{AreRising}
@@ -45,7 +46,7 @@ behind_on true np nq on back e = on refl e
 behind_on false np true on back e = let same : np ≡ true = back refl refl in cc
 behind_on false np false on back e = refl
 
-pub behind_rises : (rows : List RowTree) (turn : TurnData) → AreRising rows → Rises (is_behind turn) rows
+pub behind_rises : (rows : List RowTree) (turn : TurnData) → AreRising rows → StaysPassed (is_behind turn) rows
 behind_rises rows turn rising = record {
   later = λ i j p q lt a b e. behind_on (is_forward turn.direction) (is_near turn p) (is_near turn q)
       (λ is near. near_on turn p q (onward _ p q (rising i j p q lt a b) is) near)
@@ -252,3 +253,11 @@ pub first_by : (rows : List RowTree) (place first : ℕ) (found : RowTree) (rang
     → IsSplitAt (is_behind (record { direction = NextUnique; range = range; place = None; key = Some found.0; primary = None })) rows first → Some first ≡ first_of_key rows place
 first_by rows place first found range rising all at s =
     first_of_key_found rows rising place found at first (subst (λ r. IsSplitAt (is_behind (record { direction = NextUnique; range = r; place = None; key = Some found.0; primary = None })) rows first) all s)
+
+-- where one member is before what is sought, and the next one isn't
+pub split_here : {A : Type 0} (test : A → Bool) (xs : List A) (place : ℕ) → StaysPassed test xs → 0 < place → place < length xs → (b : Bool) → option_map test (slice_get xs (place - 1)) ≡ Some b → b ≡ false
+    → (c : Bool) → option_map test (slice_get xs place) ≡ Some c → c ≡ true → IsSplitAt test xs place
+split_here test xs place rises some within b e is c f passes =
+    let next : place - 1 + 1 ≡ place = omega (arith, some) in
+    let above = split_above test xs 0 (place - 1) (length xs) rises (unsplit test xs (length xs) refl) (omega arith) (omega (arith, some, within)) b e is in
+    split_below test xs place place (length xs) rises (subst (λ i. IsSplitBetween test xs i (length xs)) next above) (omega arith) within c f passes

@@ -1,26 +1,30 @@
 // A cursor: what it goes over, which way, in which range, and the member that it took last.
-ghost use Rattle.std.specs.Prelude.{◌≡◌, ℕ, ◌+◌, ◌-◌, ◌*◌, ◌^◌, ◌<◌, ◌≤◌, length, option_map, IfOk, OnErr};
-ghost use Rattle.clone_values.specs.View.{key_tree_of};
+ghost use Rattle.std.specs.Prelude.{◌≡◌, ℕ, ◌+◌, ◌-◌, ◌*◌, ◌^◌, ◌<◌, ◌≤◌, true, length, if◌then◌else◌, Some, None, option_map, IfOk, OnErr};
+ghost use Rattle.std.specs.Option.{is_some, option_zip};
+ghost use Rattle.std.specs.Ordering.{is_lt};
+ghost use Rattle.clone_values.specs.View.{tree_of, key_tree_of};
+ghost use Rattle.key_paths.specs.Conversion.{key_of};
 ghost use Rattle.index_tables.specs.Rows.{row_cmp};
 ghost use Rattle.index_tables.specs.View.{row_of};
-ghost use Rattle.idb_cursors.specs.Cursors.{fresh_cursor, turn_of, iterated, cursor_after, key_beyond_place, pair_beyond_place};
+ghost use Rattle.idb_cursors.specs.Cursors.{fresh_cursor, turn_of, iterated, cursor_after, toward, key_beyond_place, pair_beyond_place};
 ghost use Rattle.idb_cursors.specs.View.{key_shown, row_shown, range_given};
 
 use crate::row_view::RowView;
 use crate::seeking::{Turn, toward};
 use crate::turns::iterated;
-use clone_values::Key;
+use clone_values::{Key, Value};
 use idb_base::NoMemory;
 use idb_keys::{Direction, KeyRange, Over};
 use index_tables::Row;
-use key_order::compare;
+use key_paths::{compare_key, is_key};
 use sorted_table::Steps;
 use std::alloc::Global;
 use std::cmp::Ordering;
 use std::marker::{Brand, Model};
 use std::sync::ledger::{Blank, Ledger};
 
-/// A cursor (Indexed Database API 3.0, "cursor").
+/// A cursor (Indexed Database API 3.0, "cursor"). `near` is where the member that it took last stood then, beside which the next
+/// one is looked for first; nothing else rests on it.
 #[derive(Drop)]
 pub struct Cursor {
     over: Over,
@@ -28,6 +32,7 @@ pub struct Cursor {
     range: KeyRange,
     keys_only: bool,
     place: Option<Row>,
+    near: usize,
 }
 
 impl Model for Cursor {
@@ -67,6 +72,7 @@ impl Cursor {
             },
             keys_only,
             place: None,
+            near: 0,
         }
     }
 
@@ -98,26 +104,25 @@ impl Cursor {
         lent(&self.place)
     }
 
-    /// Whether the key lies beyond that of the cursor's member, in its direction ("continue"). It takes no memory.
-    pub fn is_key_ahead(&self, key: &Key) -> bool
-        ensures { result ≡ key_beyond_place self.now.direction self.now.place (key_tree_of key.now) }
+    /// Whether the key of a value lies beyond that of the cursor's member, in its direction ("continue"); `None` where the value has
+    /// no key. It takes no memory.
+    pub fn is_key_ahead(&self, key: &Value) -> Option<bool>
+        ensures { result ≡ option_map (key_beyond_place self.now.direction self.now.place)
+            (key_of (tree_of key.now)) }
     {
         match &self.place {
-            Some(row) => toward(self.direction, compare(&row.key, key)).is_lt(),
-            None => true,
+            Some(row) => is_ahead(self.direction, compare_key(&row.key, key)),
+            None => if_key(is_key(key)),
         }
     }
 
-    /// Whether the key and the primary key lie beyond those of the cursor's member, in its direction ("continuePrimaryKey"). It
-    /// takes no memory.
-    pub fn is_pair_ahead(&self, key: &Key, primary: &Key) -> bool
-        ensures { result ≡ pair_beyond_place self.now.direction self.now.place
-            (key_tree_of key.now, key_tree_of primary.now) }
+    /// Whether the keys of two values, a key and a primary key, lie beyond those of the cursor's member, in its direction
+    /// ("continuePrimaryKey"); `None` where either has no key. It takes no memory.
+    pub fn is_pair_ahead(&self, key: &Value, primary: &Value) -> Option<bool>
+        ensures { result ≡ option_map (pair_beyond_place self.now.direction self.now.place)
+            (option_zip (key_of (tree_of key.now)) (key_of (tree_of primary.now))) }
     {
-        match &self.place {
-            Some(row) => toward(self.direction, row_order(row, key, primary)).is_lt(),
-            None => true,
-        }
+        is_pair_beyond(self.direction, &self.place, key, primary)
     }
 
     /// Moves the cursor by so many turns over the members of its source, and gives the place of the member that it then takes;
@@ -165,10 +170,12 @@ impl Cursor {
             place: lent(&self.place),
             key,
             primary,
+            near: self.near,
         };
         let found = iterated(rows, &turn, count - 1, steps);
         if let Some(place) = found {
             self.place = copied(alloc, rows.at(place))?;
+            self.near = place;
         }
         Ok(found)
     }
@@ -196,14 +203,60 @@ impl Cursor {
     }
 }
 
-/// How a member stands to a key and a primary key.
-fn row_order(row: &Row, key: &Key, primary: &Key) -> Ordering
-    ensures { result ≡ row_cmp (row_of row.now) (key_tree_of key.now, key_tree_of primary.now) }
+/// Whether the keys of two values lie beyond the place; `None` where either has none.
+fn is_pair_beyond(
+    direction: Direction,
+    place: &Option<Row>,
+    key: &Value,
+    primary: &Value,
+) -> Option<bool>
+    ensures { result ≡ option_map (pair_beyond_place direction (option_map row_of place.now))
+        (option_zip (key_of (tree_of key.now)) (key_of (tree_of primary.now))) }
 {
-    match compare(&row.key, key) {
-        Ordering::Equal => compare(&row.primary, primary),
-        decided => decided,
+    match place {
+        Some(row) => is_ahead(direction, row_order(row, key, primary)),
+        None => if_key(are_keys(key, primary)),
     }
+}
+
+/// Whether both values have keys.
+fn are_keys(key: &Value, primary: &Value) -> bool
+    ensures { result ≡ is_some (option_zip (key_of (tree_of key.now)) (key_of (tree_of primary.now))) }
+{
+    is_key(key) && is_key(primary)
+}
+
+/// How a member stands to the keys of two values; `None` where either has none.
+#[tactic(auto, using(crate::proofs::Ahead::by_both))]
+fn row_order(row: &Row, key: &Value, primary: &Value) -> Option<Ordering>
+    ensures { result ≡ option_map (row_cmp (row_of row.now))
+        (option_zip (key_of (tree_of key.now)) (key_of (tree_of primary.now))) }
+{
+    match (
+        compare_key(&row.key, key),
+        compare_key(&row.primary, primary),
+    ) {
+        (Some(order), Some(within)) => Some(order.then(within)),
+        (Some(_), None) => None,
+        (None, _) => None,
+    }
+}
+
+/// Whether what lies so to the cursor's member lies beyond it.
+fn is_ahead(direction: Direction, order: Option<Ordering>) -> Option<bool>
+    ensures { result ≡ option_map (λ o. is_lt (toward direction o)) order }
+{
+    match order {
+        Some(order) => Some(toward(direction, order).is_lt()),
+        None => None,
+    }
+}
+
+/// Every key lies beyond the place of a cursor that has taken no member.
+fn if_key(is_key: bool) -> Option<bool>
+    ensures { result ≡ if is_key then Some true else None }
+{
+    if is_key { Some(true) } else { None }
 }
 
 /// The keys of a member that is kept.

@@ -17,7 +17,8 @@ use sorted_table::Steps;
 use std::cmp::Ordering;
 use std::sync::ledger::Ledger;
 
-/// What one turn goes by: which way, in which range and from which place, and the keys that are given.
+/// What one turn goes by: which way, in which range and from which place, and the keys that are given. `near` is where the member
+/// that was taken last stood, beside which the next one is looked for first; nothing else rests on it.
 #[derive(Drop)]
 pub(crate) struct Turn<'a, 'b> {
     pub(crate) direction: Direction,
@@ -25,6 +26,7 @@ pub(crate) struct Turn<'a, 'b> {
     pub(crate) place: Option<(&'b Key, &'b Key)>,
     pub(crate) key: Option<&'b Key>,
     pub(crate) primary: Option<&'b Key>,
+    pub(crate) near: usize,
 }
 
 pub(crate) fn is_forward(direction: Direction) -> bool
@@ -248,6 +250,35 @@ fn split<R: RowView, L: Ledger>(rows: &R, turn: &Turn, steps: &mut Steps<L>) -> 
     low
 }
 
+/// Where that place is if the next member stands beside the last.
+fn next_split(turn: &Turn) -> usize {
+    if is_forward(turn.direction) {
+        turn.near.saturating_add(1)
+    } else {
+        turn.near
+    }
+}
+
+/// The place that `split` gives, found at once where it is the one that is guessed.
+fn split_near<R: RowView, L: Ledger>(
+    rows: &R,
+    turn: &Turn,
+    guess: usize,
+    steps: &mut Steps<L>,
+) -> usize
+    ensures split { IsSplitAt (is_behind (turn_seen turn.now)) (R.rows rows.now) result }
+    ensures cost { (d : ℕ) → length (R.rows rows.now) < 2 ^ d → steps.new ≤ steps.old + (5 * d + 10) }
+{
+    if guess > 0
+        && guess < rows.len()
+        && !is_behind(rows, turn, guess - 1, steps)
+        && is_behind(rows, turn, guess, steps)
+    {
+        return guess;
+    }
+    split(rows, turn, steps)
+}
+
 /// The place, where a member stands there that meets the bound on the other side; at most one comparison.
 pub(crate) fn place_within<R: RowView, L: Ledger>(
     rows: &R,
@@ -273,9 +304,9 @@ pub(crate) fn place_within<R: RowView, L: Ledger>(
 /// The place of the first or the last member that meets what the turn asks.
 fn nearest<R: RowView, L: Ledger>(rows: &R, turn: &Turn, steps: &mut Steps<L>) -> Option<usize>
     ensures value { result ≡ nearest_place (R.rows rows.now) (turn_seen turn.now) }
-    ensures cost { (d : ℕ) → length (R.rows rows.now) < 2 ^ d → steps.new ≤ steps.old + (5 * d + 1) }
+    ensures cost { (d : ℕ) → length (R.rows rows.now) < 2 ^ d → steps.new ≤ steps.old + (5 * d + 11) }
 {
-    let place = split(rows, turn, steps);
+    let place = split_near(rows, turn, next_split(turn), steps);
     if is_forward(turn.direction) {
         place_within(rows, turn, place, steps)
     } else if place == 0 {
@@ -303,6 +334,7 @@ fn first_of_key<R: RowView, L: Ledger>(
                 place: None,
                 key: Some(key),
                 primary: None,
+                near: place,
             };
             Some(split(rows, &turn, steps))
         }
@@ -317,7 +349,7 @@ pub(crate) fn next_place<R: RowView, L: Ledger>(
     steps: &mut Steps<L>,
 ) -> Option<usize>
     ensures value { result ≡ next_place (R.rows rows.now) (turn_seen turn.now) }
-    ensures cost { (d : ℕ) → length (R.rows rows.now) < 2 ^ d → steps.new ≤ steps.old + (10 * d + 1) }
+    ensures cost { (d : ℕ) → length (R.rows rows.now) < 2 ^ d → steps.new ≤ steps.old + (10 * d + 11) }
 {
     match nearest(rows, turn, steps) {
         Some(place) => match turn.direction {

@@ -79,6 +79,7 @@ fn turn_by_turn<R: RowView, L: Ledger>(
             place: rows.at(last),
             key: turn.key,
             primary: turn.primary,
+            near: last,
         };
         match next_place(rows, &next, steps) {
             Some(found) => last = found,

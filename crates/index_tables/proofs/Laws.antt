@@ -7,7 +7,7 @@
 --     broken_by, unbroken, nothing_breaks, removal_keeps                 of unique indexes
 --     stays_unique, is_repeated                                          a record that comes clashes, or not
 --     below_at, find_removed, past_end, or_nothing, same_primary         of lists
---     Rises, unsplit, split_below, split_above, position_of_split        of places found by halving
+--     position_of_split                                                  of places found by halving
 pub use Rattle.index_tables.proofs.RowLaws.{same_rows, has_no_row, has_with_row, has_without_row, has_with_rows, has_without_rows, has_row_among, same_row}
 pub use Rattle.index_tables.proofs.RowLaws.{removal_undoes, addition_undoes, rising, counted, key_of_row, row_of_key}
 pub use Rattle.index_tables.proofs.RecordRows.{has_index_row, among_rows_of_record, rows_with, rows_over, rows_without, rows_new, rows_present, or_nothing}
@@ -16,4 +16,4 @@ pub use Rattle.index_tables.proofs.Unique.{broken_by, unbroken, Clashes, stays_u
 pub use Rattle.index_tables.proofs.UniqueLaws.{nothing_breaks, removal_keeps}
 pub use Rattle.index_tables.proofs.Mapped.{below_at, find_removed}
 pub use Rattle.index_tables.proofs.TableRows.{past_end}
-pub use Rattle.index_tables.proofs.Halving.{Rises, unsplit, split_below, split_above, position_of_split}
+pub use Rattle.index_tables.proofs.Halving.{position_of_split}

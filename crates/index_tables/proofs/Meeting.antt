@@ -16,7 +16,7 @@ use Rattle.idb_keys.specs.KeyRange.{Bound, bound_at, admits}
 use Rattle.index_tables.specs.Rows.{RowTree, RowSet, row_meets, rows_of}
 use Rattle.index_tables.specs.Halves.{IsSplitAt}
 use Rattle.index_tables.proofs.RowLaws.{rising_keys}
-use Rattle.index_tables.proofs.Halving.{Rises}
+use Rattle.index_tables.specs.Halves.{StaysPassed}
 use Rattle.index_tables.proofs.TableRows.{past_end}
 
 -- ---- a lower bound is met by what stands behind
@@ -34,7 +34,7 @@ meets_on (Some bound) Less p r s e lt met = above_met bound.is_open (key_cmp bou
 meets_on (Some bound) Equal p r s e lt met = ap (λ k. row_meets (Some bound) (k, s.1)) (sym (key_cmp_same r.0 s.0 e)) ∙ met
 meets_on (Some bound) Greater p r s e lt met = cc
 
-pub rows_rise : (lower : Option Bound) (s : RowSet) → Rises (row_meets lower) (rows_of s)
+pub rows_rise : (lower : Option Bound) (s : RowSet) → StaysPassed (row_meets lower) (rows_of s)
 rows_rise lower s = record {
   later = λ i j p q lt a b met. meets_on lower (key_cmp p.0 q.0) (key_cmp p.1 q.1) p q refl (rising_keys (finite.entries s) (finite.entries_sorted s) i j p q lt a b) met;
 }
@@ -97,7 +97,7 @@ has k r = eq_by_cmp key_cmp k r.0
 pub not_had : (k : KeyTree) (rows : List RowTree) (place : ℕ) → IsSplitAt (row_meets (Some (bound_at k false))) rows place → None ≡ slice_get rows place → list_any (has k) rows ≡ false
 not_had k rows place s past = none_of (has k) rows (λ i r at. left_out (key_cmp k r.0) (s.before i r (omega (arith, past_end rows place past, slice_get_within rows i r at)) at))
 
-behind_not : (k : KeyTree) (rows : List RowTree) (place : ℕ) (r : RowTree) → Rises (row_meets (Some (bound_at k true))) rows → IsSplitAt (row_meets (Some (bound_at k false))) rows place
+behind_not : (k : KeyTree) (rows : List RowTree) (place : ℕ) (r : RowTree) → StaysPassed (row_meets (Some (bound_at k true))) rows → IsSplitAt (row_meets (Some (bound_at k false))) rows place
     → slice_get rows place ≡ Some r → has k r ≡ false → (i : ℕ) (x : RowTree) → slice_get rows i ≡ Some x → has k x ≡ false
 behind_not k rows place r rises s at other i x there =
     elim (sides i place) [
@@ -106,7 +106,7 @@ behind_not k rows place r rises s at other i x there =
       | more_than gt ↦ passed (key_cmp k x.0) (rises.later place i r x gt at there (strictly (key_cmp k r.0) (s.behind place r (omega arith) at) other))
     ]
 
-pub had : (k : KeyTree) (rows : List RowTree) (place : ℕ) (r : RowTree) (b : Bool) → Rises (row_meets (Some (bound_at k true))) rows → IsSplitAt (row_meets (Some (bound_at k false))) rows place
+pub had : (k : KeyTree) (rows : List RowTree) (place : ℕ) (r : RowTree) (b : Bool) → StaysPassed (row_meets (Some (bound_at k true))) rows → IsSplitAt (row_meets (Some (bound_at k false))) rows place
     → Some r ≡ slice_get rows place → b ≡ has k r → list_any (has k) rows ≡ b
 had k rows place r true rises s at e = any_at (has k) rows place r (sym at) (sym e)
 had k rows place r false rises s at e = none_of (has k) rows (behind_not k rows place r rises s (sym at) (sym e))

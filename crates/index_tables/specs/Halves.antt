@@ -1,14 +1,4 @@
 -- Lists whose members fail a test up to a place, and pass it from there on.
 --     IsSplitBetween        the members before one place fail the test, and those from another on pass it
 --     IsSplitAt             the same of one place
-use Rattle.std.specs.Prelude.{◌≡◌, ℕ, ◌<◌, ◌≤◌, Bool, true, false, List, Some, length, slice_get}
-
--- the members before low fail the test, and those from high on pass it
-pub record IsSplitBetween {A : Type 0} (test : A → Bool) (xs : List A) (low high : ℕ) : Type 0 where
-  pub ordered : low ≤ high
-  pub within : high ≤ length xs
-  pub before : (i : ℕ) (x : A) → i < low → slice_get xs i ≡ Some x → test x ≡ false
-  pub behind : (i : ℕ) (x : A) → high ≤ i → slice_get xs i ≡ Some x → test x ≡ true
-
-abbrev pub IsSplitAt : {A : Type 0} → (A → Bool) → List A → ℕ → Type 0
-IsSplitAt test xs place = IsSplitBetween test xs place place
+pub use Rattle.sorted_table.specs.Halves.{IsSplitBetween, IsSplitAt, StaysPassed}

@@ -1,5 +1,6 @@
 pub mod Rows
 pub mod View
+pub mod Few
 pub mod Orders
 pub mod Halves
 pub mod RecordRows

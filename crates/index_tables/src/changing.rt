@@ -1,9 +1,9 @@
 // Rows put into a table and taken out of it.
-ghost use Rattle.std.specs.Prelude.{◌≡◌, ◌+◌, ◌<◌, ◌≤◌, List, [], ◌∷◌, true, length, OnOk};
+ghost use Rattle.std.specs.Prelude.{◌≡◌, ◌+◌, ◌<◌, ◌≤◌, List, [], ◌∷◌, true, length, map, OnOk};
 ghost use Rattle.index_tables.specs.Rows.{RowTree, among, with_row, without_row, with_rows, without_rows};
 ghost use Rattle.index_tables.specs.View.{row_of, row_set};
 
-use crate::rows::{Row, Rows};
+use crate::rows::{Few, Row, Rows};
 use idb_base::NoMemory;
 use sorted_table::{Ordered, OrderedTable, find_place};
 
@@ -25,7 +25,19 @@ pub(crate) fn add_all<R: OrderedTable<Row, ()>>(table: &mut R, rows: Rows)
     ensures rows { row_set (R.entries table.new) ≡ with_rows (row_set (R.entries table.old)) rows }
     ensures spare { R.spare table.old ≤ R.spare table.new + length rows }
 {
-    for row in rows.into_vec() {
+    match rows.rows {
+        Few::One(row) => add_row(table, row),
+        Few::Any(rows) => add_each(table, rows),
+    }
+}
+
+fn add_each<R: OrderedTable<Row, ()>>(table: &mut R, rows: Vec<Row>)
+    requires { length rows.items ≤ R.spare table.old }
+    ensures rows { row_set (R.entries table.new)
+        ≡ with_rows (row_set (R.entries table.old)) (map row_of rows.items) }
+    ensures spare { R.spare table.old ≤ R.spare table.new + length rows.items }
+{
+    for row in rows {
         add_row(table, row);
     }
 }

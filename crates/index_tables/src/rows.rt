@@ -12,6 +12,7 @@ use sorted_table::Ordered;
 use std::alloc::{AllocError, Global};
 use std::cmp::Ordering;
 use std::marker::Model;
+use std::slice;
 
 /// A row of an index (Indexed Database API 3.0, "index", its list of records).
 #[derive(Drop)]
@@ -48,10 +49,17 @@ impl Ordered for Row {
     ghost same = { by_row_order_same };
 }
 
-/// A list of rows.
+/// A list of rows. A row by itself lies in the list, and only more take memory.
 #[derive(Drop)]
 pub struct Rows {
-    rows: Vec<Row>,
+    pub(crate) rows: Few,
+}
+
+/// One row, or a vector of any number.
+#[derive(Drop)]
+pub(crate) enum Few {
+    One(Row),
+    Any(Vec<Row>),
 }
 
 impl Model for Rows {
@@ -64,8 +72,9 @@ impl Model for Rows {
     ghost coded = { coded_list row_code };
 
     ghost use Rattle.index_tables.specs.View.{row_of};
+    ghost use Rattle.index_tables.specs.Few.{few_rows};
 
-    ghost view = { λ a. map row_of a.rows.items };
+    ghost view = { λ a. map row_of (few_rows a.rows) };
 }
 
 impl Rows {
@@ -74,7 +83,34 @@ impl Rows {
         ensures { result ≡ [] }
     {
         Rows {
-            rows: Vec::new(alloc),
+            rows: Few::Any(Vec::new(alloc)),
+        }
+    }
+
+    /// The row by itself. It takes no memory.
+    pub fn one(row: Row) -> Self
+        ensures { result ≡ row_of row ∷ [] }
+    {
+        Rows {
+            rows: Few::One(row),
+        }
+    }
+
+    /// The rows of a vector, in order. It takes no memory.
+    pub fn from_vec(rows: Vec<Row>) -> Rows
+        ensures { result ≡ map row_of rows.items }
+    {
+        Rows {
+            rows: Few::Any(rows),
+        }
+    }
+
+    fn as_slice(&self) -> &[Row]
+        ensures { map row_of result.now ≡ self.now }
+    {
+        match &self.rows {
+            Few::One(row) => slice::from_ref(row),
+            Few::Any(rows) => rows.as_slice(),
         }
     }
 
@@ -82,7 +118,7 @@ impl Rows {
     pub fn len(&self) -> usize
         ensures { result ≡ length self.now }
     {
-        self.rows.len()
+        self.as_slice().len()
     }
 
     /// The row at this place, counted from 0; `None` past the end.
@@ -91,38 +127,24 @@ impl Rows {
         ensures stands { IfSome result (λ x. StandsAt self.now place (row_of x.now)) }
         ensures past_end { IfNone result (length self.now ≤ place) }
     {
-        self.rows.get(place)
-    }
-
-    /// Puts a row at the end.
-    pub fn push(&mut self, item: Row) -> Result<(), NoMemory>
-        ensures stored { OnOk result (self.new ≡ self.old ++ row_of item ∷ []) }
-        ensures unchanged { OnErr result (self.new ≡ self.old) }
-    {
-        self.rows.push(item)?;
-        Ok(())
-    }
-
-    /// The rows of a vector, in order. It takes no memory.
-    pub fn from_vec(rows: Vec<Row>) -> Rows
-        ensures { result ≡ map row_of rows.items }
-    {
-        Rows { rows }
-    }
-
-    /// The rows as a vector, in order. It takes no memory.
-    pub fn into_vec(self) -> Vec<Row>
-        ensures { map row_of result.items ≡ self }
-    {
-        self.rows
+        row_at(self.as_slice(), place)
     }
 
     /// An equal list.
     pub fn copy(&self, alloc: Global) -> Result<Rows, NoMemory>
         ensures { IfOk result (λ r. r ≡ self.now) }
     {
-        Ok(Rows {
-            rows: Vec::from_clones(alloc, self.rows.as_slice())?,
-        })
+        match &self.rows {
+            Few::One(row) => Ok(Rows::one(row.clone()?)),
+            Few::Any(rows) => Ok(Rows::from_vec(Vec::from_clones(alloc, rows.as_slice())?)),
+        }
     }
+}
+
+fn row_at(rows: &[Row], place: usize) -> Option<&Row>
+    ensures item { option_map row_of (option_copied result) ≡ slice_get (map row_of rows.now) place }
+    ensures stands { IfSome result (λ x. StandsAt (map row_of rows.now) place (row_of x.now)) }
+    ensures past_end { IfNone result (length rows.now ≤ place) }
+{
+    rows.get(place)
 }

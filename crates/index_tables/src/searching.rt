@@ -5,12 +5,12 @@ ghost use Rattle.clone_values.specs.View.{key_tree_of};
 ghost use Rattle.idb_keys.specs.KeyRange.{bound_at};
 ghost use Rattle.index_tables.specs.Rows.{rows_of, count_of, row_meets, has_row, has_key};
 ghost use Rattle.index_tables.specs.View.{row_of, row_seen, row_set, rows_in, bound_seen};
-ghost use Rattle.index_tables.specs.Halves.{IsSplitAt, IsSplitBetween};
+ghost use Rattle.index_tables.specs.Halves.{IsSplitAt};
 
 use crate::rows::Row;
 use clone_values::{Key, Keys};
 use key_order::compare;
-use sorted_table::{OrderedTable, Steps, find_place};
+use sorted_table::{Cut, OrderedTable, Steps, find_place};
 use std::cmp::Ordering;
 use std::marker::Brand;
 use std::sync::ledger::{Blank, Ledger};
@@ -40,32 +40,26 @@ pub(crate) fn row_at<R: OrderedTable<Row, ()>>(table: &R, place: usize) -> Optio
     }
 }
 
-/// Whether the row at this place has a key that meets the bound; one comparison.
-fn meets_at<R: OrderedTable<Row, ()>, L: Ledger>(
-    table: &R,
-    place: usize,
-    lower: &Key,
+/// A lower bound, as the cut in front of the rows whose keys meet it.
+#[derive(Drop)]
+struct Lower<'a> {
+    key: &'a Key,
     is_open: bool,
-    steps: &mut Steps<L>,
-) -> bool
-    requires { place < length (rows_of (row_set (R.entries table.now))) }
-    ensures value { option_map (row_meets (Some (bound_at (key_tree_of lower.now) is_open)))
-        (slice_get (rows_of (row_set (R.entries table.now))) place) ≡ Some result }
-    ensures counted { steps.new ≡ steps.old + 1 }
-{
-    steps.tick();
-    match row_at(table, place) {
-        Some(row) => match compare(lower, &row.key) {
+}
+
+impl<'a> Cut<Row> for Lower<'a> {
+    ghost passes = { λ bound row. row_meets (Some (bound_at (key_tree_of bound.key.now) bound.is_open)) (row_of row) };
+
+    fn passes(&self, row: &Row) -> bool {
+        match compare(self.key, &row.key) {
             Ordering::Less => true,
-            Ordering::Equal => !is_open,
+            Ordering::Equal => !self.is_open,
             Ordering::Greater => false,
-        },
-        None => unreachable!(),
+        }
     }
 }
 
-/// The place of the first row whose key meets the bound, or the number of the rows; the first comparison is with the
-/// last row.
+/// The place of the first row whose key meets the bound, or the number of the rows.
 fn first_meeting<R: OrderedTable<Row, ()>, L: Ledger>(
     table: &R,
     lower: &Key,
@@ -77,44 +71,11 @@ fn first_meeting<R: OrderedTable<Row, ()>, L: Ledger>(
     ensures counted { steps.old ≤ steps.new }
     ensures cost { 2 ^ (steps.new - steps.old) ≤ 4 * count_of (row_set (R.entries table.now)) + 2 }
 {
-    let count = count_in(table);
-    if count == 0 {
-        return 0;
-    }
-    let last = count - 1;
-    if meets_at(table, last, lower, is_open, steps) {
-        first_before(table, last, lower, is_open, steps)
-    } else {
-        count
-    }
-}
-
-/// The same where those from `high` on meet it.
-fn first_before<R: OrderedTable<Row, ()>, L: Ledger>(
-    table: &R,
-    high: usize,
-    lower: &Key,
-    is_open: bool,
-    steps: &mut Steps<L>,
-) -> usize
-    requires { IsSplitBetween (row_meets (Some (bound_at (key_tree_of lower.now) is_open)))
-        (rows_of (row_set (R.entries table.now))) 0 high }
-    ensures split { IsSplitAt (row_meets (Some (bound_at (key_tree_of lower.now) is_open)))
-        (rows_of (row_set (R.entries table.now))) result }
-    ensures counted { steps.old ≤ steps.new }
-    ensures cost { 2 ^ (steps.new - steps.old) ≤ 2 * high + 1 }
-{
-    let mut low = 0;
-    let mut end = high;
-    while low < end {
-        let middle = low + (end - low) / 2;
-        if meets_at(table, middle, lower, is_open, steps) {
-            end = middle;
-        } else {
-            low = middle + 1;
-        }
-    }
-    low
+    let bound = Lower {
+        key: lower,
+        is_open,
+    };
+    table.first_behind(&bound, steps)
 }
 
 /// The place of the first row whose key meets the bound, if there is one.

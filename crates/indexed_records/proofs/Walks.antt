@@ -2,6 +2,7 @@
 --     Walked                        as far as a place
 --     walked_get, walked_more       the next table is as it was, and once it is changed the walk is one place on
 --     walked_all, walked_kept       at the end;  on the way, where the change may be none
+--     one_changed                   where there is but one
 --     FilledOn, filled_none, filled_more, filled_all        tables without rows come at the end
 --     paired_get                    two lists side by side
 use Rattle.std.proofs.Common.{◌≡◌, ℕ, zero, suc, ◌+◌, ◌-◌, ◌<◌, ◌≤◌, List, [], ◌∷◌, ◌++◌, append_assoc, length-append, refl, sym, ap, subst, ◌∙◌, Some, length, drop, get_or, add-one, arith}
@@ -67,6 +68,10 @@ module _ {A : Type 0} (R : A → IndexRows → IndexRows → Type 0) where
   walked_all [] os ns (suc i) h le = absurd h
   walked_all (a ∷ xs) [] ns (suc i) h le = absurd h
   walked_all (a ∷ xs) (o ∷ os) [] (suc i) h le = absurd h
+
+  -- the one table there is, once it is changed
+  pub one_changed : (xs : List A) (os : List IndexRows) (a : A) (d n : IndexRows) → slice_get xs 0 ≡ Some a → 0 < length os → length os ≤ 1 → R a (get_or os 0 d) n → AllChanged R xs os (slice_set os 0 n)
+  one_changed xs os a d n at some few r = walked_all xs os _ 1 (walked_on xs os os 0 a d n refl some at r) few
 
 module _ (R : IndexRows → IndexRows → IndexRows → Type 0) (none : (o : IndexRows) → R o o o) where
   all_same : (os ns : List IndexRows) → ns ≡ os → AllChanged R os os ns

@@ -9,3 +9,4 @@ pub mod Taken
 pub mod Reading
 pub mod Ends
 pub mod Sameness
+pub mod Lists

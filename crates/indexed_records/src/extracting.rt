@@ -23,6 +23,11 @@ pub(crate) fn rows_in_each(
     ensures { IfOk result (λ rows. rows
         ≡ rows_in_indexes indexes.now (key_tree_of key.now) (tree_of value.now)) }
 {
+    if indexes.len() == 1 {
+        if let Some(index) = indexes.at(0) {
+            return Ok(RowLists::one(rows_in_one(alloc, index, key, value)?));
+        }
+    }
     RowLists::of(lists_in_each(alloc, indexes, key, value)?)
 }
 
@@ -65,10 +70,8 @@ pub(crate) fn rows_in_one(
 fn row_of_key(alloc: Global, key: Key, primary: &Key) -> Result<Rows, NoMemory>
     ensures { IfOk result (λ rows. rows ≡ (key_tree_of key, key_tree_of primary.now) ∷ []) }
 {
-    let mut rows = Vec::with_capacity(alloc, 1)?;
     let primary = primary.copy(alloc)?;
-    rows.push(Row { key, primary })?;
-    Ok(Rows::from_vec(rows))
+    Ok(Rows::one(Row { key, primary }))
 }
 
 fn copied_row(alloc: Global, key: &Key, primary: &Key) -> Result<Row, NoMemory>

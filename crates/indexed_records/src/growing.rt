@@ -1,10 +1,10 @@
 // The tables of rows, changed one by one.
-ghost use Rattle.std.specs.Prelude.{◌≡◌, ℕ, ◌≤◌, length, vec_capacity, OnOk, OnErr};
+ghost use Rattle.std.specs.Prelude.{◌≡◌, ℕ, ◌≤◌, [], ◌∷◌, length, vec_capacity, OnOk, OnErr};
 ghost use Rattle.index_tables.specs.RecordRows.{Records};
 ghost use Rattle.indexed_records.specs.Matches.{InStep};
 ghost use Rattle.indexed_records.specs.Walks.{AllChanged, Keeps, HasRoomFor, Adds, Removes, Replaces, CanAdd, IsFilled, paired};
 
-use crate::row_lists::RowLists;
+use crate::row_lists::{Lists, RowLists};
 use idb_base::NoMemory;
 use idb_schema::IndexInfos;
 use index_tables::{IndexTable, Rows, Tables};
@@ -82,7 +82,20 @@ pub(crate) fn add_to_each<T: Tables>(tables: &mut Vec<IndexTable<T>>, rows: RowL
     requires { AllChanged CanAdd rows tables.old.items tables.old.items }
     ensures { AllChanged Adds rows tables.old.items tables.new.items }
 {
-    add_in(tables.as_mut_slice(), rows.into_lists())
+    match rows.lists {
+        Lists::One(list) => add_first(tables.as_mut_slice(), list),
+        Lists::Any(lists) => add_in(tables.as_mut_slice(), lists),
+    }
+}
+
+/// The same of a list by itself, for the one table that there may be.
+fn add_first<T: Tables>(tables: &mut [IndexTable<T>], rows: Rows)
+    requires { AllChanged CanAdd (rows ∷ []) tables.old tables.old }
+    ensures { AllChanged Adds (rows ∷ []) tables.old tables.new }
+{
+    if tables.len() > 0 {
+        tables[0].add_rows(rows);
+    }
 }
 
 fn add_in<T: Tables>(tables: &mut [IndexTable<T>], rows: Vec<Rows>)
@@ -126,7 +139,24 @@ pub(crate) fn replace_in_each<T: Tables>(
     requires room { AllChanged CanAdd new tables.old.items tables.old.items }
     ensures { AllChanged Replaces (paired old.now new) tables.old.items tables.new.items }
 {
-    replace_in(tables.as_mut_slice(), old, new.into_lists())
+    match new.lists {
+        Lists::One(list) => replace_first(tables.as_mut_slice(), old, list),
+        Lists::Any(lists) => replace_in(tables.as_mut_slice(), old, lists),
+    }
+}
+
+/// The same of a list by itself, for the one table that there may be.
+fn replace_first<T: Tables>(tables: &mut [IndexTable<T>], old: &RowLists, new: Rows)
+    requires rows { length tables.old ≤ length old.now }
+    requires room { AllChanged CanAdd (new ∷ []) tables.old tables.old }
+    ensures { AllChanged Replaces (paired old.now (new ∷ [])) tables.old tables.new }
+{
+    if tables.len() > 0 {
+        match old.at(0) {
+            Some(gone) => tables[0].replace_rows(gone, new),
+            None => unreachable!(),
+        }
+    }
 }
 
 fn replace_in<T: Tables>(tables: &mut [IndexTable<T>], old: &RowLists, new: Vec<Rows>)
@@ -136,8 +166,8 @@ fn replace_in<T: Tables>(tables: &mut [IndexTable<T>], old: &RowLists, new: Vec<
 {
     let mut lists = new.into_iter();
     for (place, table) in tables.iter_mut().enumerate() {
-        if let Some(list) = lists.next() {
-            if let Some(gone) = old.at(place) {
+        if let Some(gone) = old.at(place) {
+            if let Some(list) = lists.next() {
                 table.replace_rows(gone, list);
             }
         }

@@ -1,5 +1,5 @@
 // What the table of records and the tables of rows show.
-ghost use Rattle.std.specs.Prelude.{◌≡◌, [], length, slice_get, option_map, IfOk, IfErr};
+ghost use Rattle.std.specs.Prelude.{◌≡◌, [], IsTrue, length, slice_get, option_map, IfOk, IfErr};
 ghost use Rattle.std.specs.Option.{option_copied};
 ghost use Rattle.std.specs.FinMap as finite;
 ghost use Rattle.clone_values.specs.Tree.{Tree};
@@ -13,6 +13,7 @@ ghost use Rattle.indexed_records.specs.Reading.{keys_seen, value_seen};
 ghost use Rattle.indexed_records.specs.Shown.{shown_by};
 ghost use Rattle.indexed_records.specs.View.{record_seen, records_of, own_rows};
 
+use crate::clashing::ties;
 use clone_values::{Key, Value};
 use idb_keys::Over;
 use index_tables::{IndexTable, Tables};
@@ -28,6 +29,38 @@ pub(crate) fn record_in<R: OrderedTable<Key, Value>>(records: &R, key: &Key) -> 
     match find_place(records, key) {
         Ok(place) => Ok(place),
         Err(place) => Err(place),
+    }
+}
+
+/// The same, where the record at the place in front of `behind` and the one there are looked at first.
+pub(crate) fn record_near<R: OrderedTable<Key, Value>>(
+    records: &R,
+    behind: usize,
+    key: &Key,
+) -> Result<usize, usize>
+    ensures found { IfOk result (λ place. (value : Tree)
+        × IsRecordAt (records_of (R.entries records.now)) place (key_tree_of key.now) value) }
+    ensures absent { IfErr result (λ place. IsGapOf (records_of (R.entries records.now)) place
+        (key_tree_of key.now)) }
+{
+    if stands_at(records, behind, key) {
+        return Ok(behind);
+    }
+    let before = behind.saturating_sub(1);
+    if stands_at(records, before, key) {
+        return Ok(before);
+    }
+    record_in(records, key)
+}
+
+/// Whether the record of this key stands at this place.
+fn stands_at<R: OrderedTable<Key, Value>>(records: &R, place: usize, key: &Key) -> bool
+    ensures { IsTrue result → (value : Tree)
+        × IsRecordAt (records_of (R.entries records.now)) place (key_tree_of key.now) value }
+{
+    match records.nth(place) {
+        Some((found, _)) => ties(found, key),
+        None => false,
     }
 }
 

@@ -14,7 +14,7 @@ mod indexing;
 mod writing;
 
 use crate::reading::{
-    count_records, first_record, first_row, record_in, record_nth, records_in_order, shown_at,
+    count_records, first_record, first_row, record_near, record_nth, records_in_order, shown_at,
     shown_count, table_at, value_found,
 };
 use clone_values::{Key, Value};
@@ -26,7 +26,8 @@ use std::alloc::Global;
 use std::marker::Model;
 
 /// The records of an object store and the rows of its indexes. Contracts see the definition of the store, the records by
-/// key, and how many more records, and rows of each index, can be added without memory.
+/// key, and how many more records, and rows of each index, can be added without memory. `behind` is the place behind the last
+/// record that was put in or changed, where records that come in order are found at once; nothing else rests on it.
 #[derive(Drop)]
 pub struct IndexedRecords<T: Tables> {
     alloc: Global,
@@ -34,6 +35,7 @@ pub struct IndexedRecords<T: Tables> {
     records: T::Records,
     tables: Vec<IndexTable<T>>,
     row_spare: usize,
+    behind: usize,
 }
 
 impl<T: Tables> Model for IndexedRecords<T> {
@@ -72,6 +74,7 @@ impl<T: Tables> IndexedRecords<T> {
             records: T::records(alloc),
             tables: Vec::new(alloc),
             row_spare: 0,
+            behind: 0,
         }
     }
 
@@ -131,13 +134,14 @@ impl<T: Tables> IndexedRecords<T> {
         }
     }
 
-    /// The place of the record of this key, or the place where it would stand, found by halving. It takes no memory.
+    /// The place of the record of this key, or the place where it would stand: found at once where it is the record that was
+    /// last put in or changed, or the next one, and else by halving. It takes no memory.
     pub fn find(&self, key: &Key) -> Result<usize, usize>
         ensures found { IfOk result (λ place. (value : Tree)
             × IsRecordAt self.now.records place (key_tree_of key.now) value) }
         ensures absent { IfErr result (λ place. IsGapOf self.now.records place (key_tree_of key.now)) }
     {
-        record_in(&self.records, key)
+        record_near(&self.records, self.behind, key)
     }
 
     /// The value of the record of this key; `None` where there is none. It takes no memory.

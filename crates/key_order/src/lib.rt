@@ -68,7 +68,8 @@ fn compare_lists(a: &Keys, b: &Keys) -> Ordering
     }
 }
 
-fn type_rank(key: &Key) -> u8
+/// Where the key's type stands: number, date, string, binary, array.
+pub fn type_rank(key: &Key) -> u8
     ensures { result ≡ type_rank (key_tree_of key.now) }
 {
     match key {
@@ -81,8 +82,9 @@ fn type_rank(key: &Key) -> u8
 }
 
 /// The order of two texts by their UTF-16 code units, which are not written out: that of their bytes, but that U+E000 to
-/// U+FFFF stand behind the characters above, which are written with surrogates.
-fn compare_texts(a: &str, b: &str) -> Ordering
+/// U+FFFF stand behind the characters above, which are written with surrogates. It takes no memory, and time in proportion to
+/// the shorter.
+pub fn compare_texts(a: &str, b: &str) -> Ordering
     ensures { result ≡ text_cmp a.now b.now }
 {
     compare_ranked(a.as_bytes(), b.as_bytes())

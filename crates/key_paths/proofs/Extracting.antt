@@ -28,20 +28,18 @@ Kind false b (Some ts) = key_or_invalid (b && list_all fits_in_array ts)
 deeper : (d e : ℕ) → nat_le (1 + max (max d e) 0) 100 ≡ (nat_le d 99 && nat_le (1 + max e 0) 100)
 deeper d e = grind (arith, common_steps)
 
-turned : (a b c d : Bool) → ((a && b) && (c && d)) ≡ ((c && a) && (b && d))
-turned true true true d = refl
-turned true true false d = refl
+pub turned : (a b c d : Bool) → ((a && b) && (c && d)) ≡ ((a && c) && (b && d))
+turned true true c d = refl
 turned true false true d = refl
 turned true false false d = refl
-turned false b true d = refl
-turned false b false d = refl
+turned false b c d = refl
 
-all_fit : (ts : List Tree) → (nat_le (1 + max (trees_depth (trees_of ts)) 0) 100 && are_convertible (trees_of ts)) ≡ list_all fits_in_array ts
+pub all_fit : (ts : List Tree) → (are_convertible (trees_of ts) && nat_le (1 + max (trees_depth (trees_of ts)) 0) 100) ≡ list_all fits_in_array ts
 all_fit [] = refl
 all_fit (t ∷ ts) =
     let rest = are_convertible (trees_of ts) in
-    ap (λ b. b && (is_convertible t && rest)) (deeper (depth_of t) (trees_depth (trees_of ts)))
-    ∙ turned (nat_le (depth_of t) 99) (nat_le (1 + max (trees_depth (trees_of ts)) 0) 100) (is_convertible t) rest
+    ap (λ b. is_convertible t && rest && b) (deeper (depth_of t) (trees_depth (trees_of ts)))
+    ∙ turned (is_convertible t) rest (nat_le (depth_of t) 99) (nat_le (1 + max (trees_depth (trees_of ts)) 0) 100)
     ∙ ap (λ b. fits_in_array t && b) (all_fit ts)
 
 kind_of_all : (multi : Bool) (o : Option (List Tree)) → Kind multi true o ≡ extraction_of (extracted_from multi (option_map (λ ts. array (trees_of ts) no_members) o))

@@ -1,5 +1,6 @@
 pub mod Convertible
 pub mod Extracting
+pub mod KeysGiven
 pub mod KeysFound
 pub mod EachOnce
 pub mod Walks

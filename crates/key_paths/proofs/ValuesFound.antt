@@ -14,7 +14,7 @@ use Rattle.clone_values.specs.KeyTree.{KeyTree}
 use Rattle.clone_values.specs.Names.{get_member}
 use Rattle.clone_values.specs.WellFormed.{is_value, are_values, member_values, is_within_limit, IsValue}
 use Rattle.clone_values.specs.KeyValues.{IsKey}
-use Rattle.clone_values.proofs.Laws.{trees_again, both_so, array_fits, array_again}
+use Rattle.clone_values.proofs.Laws.{trees_again, both_so, array_fits, array_again, object_fits}
 use Rattle.clone_values.specs.declared.path_types.PathSpec.{PathSpec}
 use Rattle.clone_values.specs.declared.path_types.PathSpec.TheVariants.{One, Many}
 use Rattle.key_order.specs.KeyOrder.{code_units}
@@ -62,7 +62,7 @@ length_formed function h = tt
 
 -- ---- a property
 pub properties_formed : (t : Tree) → IsValue t → member_values (members_of (named_properties t)) ≡ true
-properties_formed (object ms) v = ap member_values (members_back ms) ∙ first_so (member_values ms) _ v
+properties_formed (object ms) v = ap member_values (members_back ms) ∙ (object_fits ms v).values
 properties_formed (array ts ms) v = ap member_values (members_back ms) ∙ (array_fits ts ms v).values
 properties_formed _ v = refl
 

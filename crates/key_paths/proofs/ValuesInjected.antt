@@ -15,7 +15,7 @@ use Rattle.clone_values.specs.KeyTree.{KeyTree}
 use Rattle.clone_values.specs.Names.{names_of, rises_after, is_rising, set_member, get_member}
 use Rattle.clone_values.specs.WellFormed.{is_value, member_values, is_text, is_within_limit, are_properties, are_digits, is_array_name, IsValue}
 use Rattle.clone_values.specs.KeyValues.{IsKey, value_of_key}
-use Rattle.clone_values.proofs.Laws.{members_again, both_so, array_fits, array_again, set_longer, values_set, names_set, properties_set}
+use Rattle.clone_values.proofs.Laws.{members_again, both_so, array_fits, array_again, object_fits, object_again, set_longer, values_set, names_set, properties_set}
 use Rattle.clone_values.specs.declared.path_types.PathSpec.{PathSpec}
 use Rattle.clone_values.specs.declared.path_types.PathSpec.TheVariants.{One, Many}
 use Rattle.path_grammar.specs.KeyPath.{parts_of, is_part_name, is_key_path}
@@ -83,10 +83,12 @@ set_in : (t : Tree) (n : List ℕ) (w : Tree) (f : Tree → Bool) → is_holder 
     → is_value (with_properties t (set_member (named_properties t) n w)) ≡ true
 set_in (object ms) n w f h l name v g room =
     let ps = list_of_members ms in
-    let props = second_so (member_values ms) (are_properties ps) v in
+    let one = object_fits ms v in
     let new = set_member ps n w in
-    both_so (member_values (members_of new)) _ (values_set ps n w (ap member_values (members_back ms) ∙ first_so (member_values ms) (are_properties ps) v) g)
-    (ap are_properties (members_again new) ∙ properties_set ps n w props (first_so (is_text n) _ name) (still_short ps n w (get_member ps n) f props refl room))
+    object_again (members_of new) (record {
+      values = values_set ps n w (ap member_values (members_back ms) ∙ one.values) g;
+      props = ap are_properties (members_again new) ∙ properties_set ps n w one.props (first_so (is_text n) _ name) (still_short ps n w (get_member ps n) f one.props refl room);
+    })
 set_in (array ts ms) n w f h l name v g room =
     let ps = list_of_members ms in
     let one = array_fits ts ms v in

@@ -1,5 +1,5 @@
 // Conversion of values to keys, and of keys to values.
-ghost use Rattle.std.specs.Prelude.{◌≡◌, ℕ, ◌≤◌, true, List, Some, None, is_some, option_map, IfOk, IfSome, IsOk};
+ghost use Rattle.std.specs.Prelude.{◌≡◌, ℕ, ◌≤◌, nat_le, true, List, Some, None, is_some, option_map, IfOk, IfSome, IsOk};
 ghost use Rattle.std.specs.List.{All};
 ghost use Rattle.clone_values.specs.Tree.{Tree, trees_of};
 ghost use Rattle.clone_values.specs.KeyTree.{KeyTree, key_trees_of};
@@ -7,7 +7,7 @@ ghost use Rattle.clone_values.specs.View.{tree_of, key_tree_of};
 ghost use Rattle.key_paths.specs.Conversion.{key_of, key_within, keys_within, is_convertible, are_convertible, fits_in_array, keys_of, AreDistinctKeys};
 ghost use Rattle.clone_values.specs.KeyValues.{IsKey, value_of_key, values_of_keys, key_depth};
 ghost use Rattle.clone_values.specs.WellFormed.{IsValue, are_values};
-ghost use Rattle.clone_values.specs.Values.{IsCloneable};
+ghost use Rattle.clone_values.specs.Values.{depth_of, IsCloneable};
 
 use clone_values::{Items, Key, Keys, Props, Value, depth};
 use idb_base::{GREATEST_DEPTH, NoMemory};
@@ -26,15 +26,22 @@ pub fn to_key(alloc: Global, v: &Value) -> Result<Option<Key>, NoMemory>
 }
 
 /// Whether the value has a key; it takes no memory.
-#[tactic(auto, using(crate::proofs::Convertible::array_decided))]
+#[tactic(auto, using(crate::proofs::Convertible::array_tests))]
 pub fn is_key(v: &Value) -> bool
     ensures { result ≡ is_some (key_of (tree_of v.now)) }
 {
     match v {
         Value::Int(_) | Value::Date(_) | Value::Text(_) | Value::Bytes(_) => true,
-        Value::Array(items, _) => depth(v) as usize <= GREATEST_DEPTH && are_convertible(items),
+        Value::Array(items, _) => are_convertible(items) && is_shallow(v),
         _ => false,
     }
+}
+
+/// Whether the value is no deeper than what can have a key.
+fn is_shallow(v: &Value) -> bool
+    ensures { result ≡ nat_le (depth_of (tree_of v.now)) 100 }
+{
+    depth(v) as usize <= GREATEST_DEPTH
 }
 
 /// Whether an Array with this item can have a key.
@@ -43,7 +50,7 @@ pub(crate) fn fits_in_array(v: &Value) -> bool
 {
     match v {
         Value::Int(_) | Value::Date(_) | Value::Text(_) | Value::Bytes(_) => true,
-        Value::Array(items, _) => (depth(v) as usize) < GREATEST_DEPTH && are_convertible(items),
+        Value::Array(items, _) => are_convertible(items) && (depth(v) as usize) < GREATEST_DEPTH,
         _ => false,
     }
 }

@@ -5,6 +5,8 @@ use idb_base::GREATEST_LENGTH;
 use key_paths::*;
 use path_grammar::KeyPath;
 use std::alloc::Global;
+use std::cmp::Ordering;
+use std::fmt::Write;
 use std::process::Abort;
 
 fn text(rt: &impl Abort, alloc: Global, s: &str) -> Text {
@@ -580,4 +582,141 @@ fn undefined_becomes_one(rt: &impl Abort, alloc: Global) -> bool {
 #[test]
 fn other_properties_stay(rt: HostRuntime) {
     assert!(rt; undefined_becomes_one(&rt, rt.alloc()));
+}
+
+/// Values in the order of their keys: numbers, dates, strings, binaries, Arrays.
+fn risen(rt: &impl Abort, alloc: Global, place: usize) -> Value {
+    match place {
+        0 => Value::Int(-3),
+        1 => Value::Int(5),
+        2 => Value::Date(-9),
+        3 => text_value(rt, alloc, "a"),
+        4 => text_value(rt, alloc, "ab"),
+        5 => bytes_value(rt, alloc, &[]),
+        6 => array_of(rt, alloc, &[]),
+        7 => array_of(rt, alloc, &[Short::Int(5)]),
+        8 => array_of(rt, alloc, &[Short::Int(5), Short::Text("a")]),
+        _ => array_of(rt, alloc, &[Short::Date(-9)]),
+    }
+}
+
+fn sign(order: Option<Ordering>) -> &'static str {
+    match order {
+        Some(Ordering::Less) => "<",
+        Some(Ordering::Equal) => "=",
+        Some(Ordering::Greater) => ">",
+        None => "?",
+    }
+}
+
+/// How the value stands to each of them, by itself and by its key.
+fn write_signs(rt: &impl Abort, alloc: Global, value: &Value, said: &mut String) {
+    let key = to_key(alloc, value).expect(rt, "memory");
+    for place in 0..10 {
+        let other = risen(rt, alloc, place);
+        let by_key = match &key {
+            Some(key) => compare_key(key, &other),
+            None => None,
+        };
+        let _ = write!(
+            said,
+            "{}{}",
+            sign(compare_values(value, &other)),
+            sign(by_key)
+        );
+    }
+    let _ = write!(said, "\n");
+}
+
+/// Each of ten rising values beside each, and a value without a key.
+#[test]
+fn keys_of_values_compare_as_stated(rt: HostRuntime) {
+    let mut said = String::new(rt.alloc());
+    for place in 0..10 {
+        write_signs(&rt, rt.alloc(), &risen(&rt, rt.alloc(), place), &mut said);
+    }
+    write_signs(&rt, rt.alloc(), &Value::Null, &mut said);
+    assert!(rt;
+        said.as_str()
+            == "==<<<<<<<<<<<<<<<<<<
+>>==<<<<<<<<<<<<<<<<
+>>>>==<<<<<<<<<<<<<<
+>>>>>>==<<<<<<<<<<<<
+>>>>>>>>==<<<<<<<<<<
+>>>>>>>>>>==<<<<<<<<
+>>>>>>>>>>>>==<<<<<<
+>>>>>>>>>>>>>>==<<<<
+>>>>>>>>>>>>>>>>==<<
+>>>>>>>>>>>>>>>>>>==
+????????????????????
+"
+    );
+}
+
+/// An Object whose n is 5, whose s is ab, and whose t is the Array of both.
+fn keyed(rt: &impl Abort, alloc: Global) -> Value {
+    let mut value = object(rt, alloc, "n", Value::Int(5));
+    add(rt, alloc, &mut value, "s", text_value(rt, alloc, "ab"));
+    let both = array_of(rt, alloc, &[Short::Int(5), Short::Text("ab")]);
+    add(rt, alloc, &mut value, "t", both);
+    value
+}
+
+/// Whether the path gives the key of the second value on it.
+fn gives_that(rt: &impl Abort, alloc: Global, path: &KeyPath, expected: &Value) -> &'static str {
+    let key = to_key(alloc, expected)
+        .expect(rt, "memory")
+        .expect(rt, "a key");
+    if gives_key(path, &keyed(rt, alloc), &key) {
+        "y"
+    } else {
+        "n"
+    }
+}
+
+/// For a path, whether it gives 5, ab, 2, [5, ab], [5], [5, ab, 5] and [ab, 5].
+fn write_given(rt: &impl Abort, alloc: Global, path: &KeyPath, said: &mut String) {
+    let five = Short::Int(5);
+    let ab = Short::Text("ab");
+    for short in &[five, ab, Short::Int(2)] {
+        let _ = write!(
+            said,
+            "{}",
+            gives_that(rt, alloc, path, &value(rt, alloc, *short))
+        );
+    }
+    let lists: [&[Short]; 4] = [&[five, ab], &[five], &[five, ab, five], &[ab, five]];
+    for list in &lists {
+        let _ = write!(
+            said,
+            "{}",
+            gives_that(rt, alloc, path, &array_of(rt, alloc, *list))
+        );
+    }
+    let _ = write!(said, "\n");
+}
+
+#[test]
+fn paths_give_keys_as_stated(rt: HostRuntime) {
+    let alloc = rt.alloc();
+    let mut said = String::new(alloc);
+    for s in &["n", "s", "t", "t.length", "x", ""] {
+        write_given(&rt, alloc, &path(&rt, alloc, *s), &mut said);
+    }
+    write_given(&rt, alloc, &paths(&rt, alloc, &["n", "s"]), &mut said);
+    write_given(&rt, alloc, &paths(&rt, alloc, &["n"]), &mut said);
+    write_given(&rt, alloc, &paths(&rt, alloc, &["n", "x"]), &mut said);
+    assert!(rt;
+        said.as_str()
+            == "ynnnnnn
+nynnnnn
+nnnynnn
+nnynnnn
+nnnnnnn
+nnnnnnn
+nnnynnn
+nnnnynn
+nnnnnnn
+"
+    );
 }

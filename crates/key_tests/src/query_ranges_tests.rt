@@ -46,8 +46,8 @@ fn say_keys(rt: &impl Abort, alloc: Global, query: &Query, said: &mut String) {
 
 fn say(rt: &impl Abort, alloc: Global, query: &Query, said: &mut String) {
     say_keys(rt, alloc, query, said);
-    let must = is_query_refused(alloc, true, query).expect(rt, "memory");
-    let may = is_query_refused(alloc, false, query).expect(rt, "memory");
+    let must = is_query_refused(true, query);
+    let may = is_query_refused(false, query);
     let _ = write!(said, " {must} {may}\n");
 }
 

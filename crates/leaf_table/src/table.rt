@@ -1,6 +1,7 @@
 // Entries in leaves.
 ghost use Rattle.std.specs.Prelude.{◌≡◌, ℕ, ◌+◌, ◌-◌, ◌*◌, ◌/◌, ◌^◌, ◌<◌, ◌≤◌, [], List, Some, length, take, drop, slice_get, slice_set, insert, remove, option_map, option_copied, OnOk, IfOk, IfErr, IsTrue, ◌⊎◌};
 ghost use Rattle.std.specs.FinMap.{put};
+ghost use Rattle.sorted_table.specs.Halves.{IsSplitAt, IsSplitBetween, StaysPassed};
 ghost use Rattle.sorted_table.specs.Tables.{pair_seen, IsSorted, AreAbove, HasKeyAt, BelongsAt, value_there, with_value};
 ghost use Rattle.leaf_table.specs.Leaves.{joined, before, leaf_at, spare_of, AreLeaves, are_leaves_is_prop, IsOnes};
 
@@ -8,7 +9,7 @@ use crate::leaf::{HALF, MOST};
 use crate::pile::Pile;
 use crate::sizes::{Gap, Seat, Span};
 use idb_base::NoMemory;
-use sorted_table::{Ordered, OrderedTable, Steps};
+use sorted_table::{Cut, Ordered, OrderedTable, Steps};
 use std::alloc::Global;
 use std::cmp::Ordering;
 use std::sync::ledger::Ledger;
@@ -64,6 +65,10 @@ impl<K: Ordered, V: Drop> OrderedTable<K, V> for LeafTable<K, V> {
 
     fn place_of<L: Ledger>(&self, key: &K, steps: &mut Steps<L>) -> Result<usize, usize> {
         place_in(&self.pile, key, steps)
+    }
+
+    fn first_behind<C: Cut<K>, L: Ledger>(&self, cut: &C, steps: &mut Steps<L>) -> usize {
+        first_in(&self.pile, cut, steps)
     }
 
     fn nth(&self, place: usize) -> Option<(&K, &V)> {
@@ -305,6 +310,76 @@ fn place_before<K: Ordered, V: Drop, L: Ledger>(
         }
     }
     Err(low)
+}
+
+/// Whether the key of an entry lies behind the cut, and one step more.
+fn passed<K, C: Cut<K>, L: Ledger>(cut: &C, key: &K, steps: &mut Steps<L>) -> bool
+    ensures value { result ≡ C.passes cut.now key.now }
+    ensures counted { steps.new ≡ steps.old + 1 }
+{
+    steps.tick();
+    cut.passes(key)
+}
+
+/// The place of the first entry whose key lies behind the cut, or the number of entries; the first question is about the last
+/// entry.
+fn first_in<K: Drop, V: Drop, C: Cut<K>, L: Ledger>(
+    pile: &Pile<(K, V)>,
+    cut: &C,
+    steps: &mut Steps<L>,
+) -> usize
+    requires { StaysPassed (λ e. C.passes cut.now e.0) (joined pile.now.leaves) }
+    ensures split { IsSplitAt (λ e. C.passes cut.now e.0) (joined pile.now.leaves) result }
+    ensures counted { steps.old ≤ steps.new }
+    ensures cost { 2 ^ (steps.new - steps.old) ≤ 4 * length (joined pile.now.leaves) + 2 }
+{
+    let count = pile.count();
+    if count == 0 {
+        return 0;
+    }
+    let last = count - 1;
+    if passed(cut, &pair_at(pile, last).0, steps) {
+        first_before(pile, last, cut, steps)
+    } else {
+        count
+    }
+}
+
+/// The same where those from `high` on lie behind it.
+fn first_before<K: Drop, V: Drop, C: Cut<K>, L: Ledger>(
+    pile: &Pile<(K, V)>,
+    high: usize,
+    cut: &C,
+    steps: &mut Steps<L>,
+) -> usize
+    requires rises { StaysPassed (λ e. C.passes cut.now e.0) (joined pile.now.leaves) }
+    requires high { IsSplitBetween (λ e. C.passes cut.now e.0) (joined pile.now.leaves) 0 high }
+    ensures split { IsSplitAt (λ e. C.passes cut.now e.0) (joined pile.now.leaves) result }
+    ensures counted { steps.old ≤ steps.new }
+    ensures cost { 2 ^ (steps.new - steps.old) ≤ 2 * high + 1 }
+{
+    let mut low = 0;
+    let mut end = high;
+    let mut most = ones_from(high);
+    let mut span = Span {
+        first: 0,
+        start: 0,
+        last: pile.len(),
+    };
+    while low < end {
+        let half = most / 2;
+        let probe = pile.probe(Gap { low, end, half }, span);
+        most = half;
+        if passed(cut, &pair_in(pile, probe.seat).0, steps) {
+            end = probe.place;
+            span.last = end_of(probe.seat);
+        } else {
+            low = probe.place + 1;
+            span.first = probe.seat.leaf;
+            span.start = probe.place - probe.seat.offset;
+        }
+    }
+    low
 }
 
 /// The leaf behind those that have an item before this seat.

@@ -5,6 +5,7 @@
 --     range_of_query        the keys that it asks for; all where it says nothing
 --     bounds_exclude        two bounds between which no key can be
 use Rattle.std.specs.Prelude.{Bool, true, false, ◌&&◌, ◌||◌, Option, Some, None, if◌then◌else◌, option_map}
+use Rattle.std.specs.declared.cmp.Ordering.{Ordering}
 use Rattle.std.specs.Ordering.{is_eq, is_lt}
 use Rattle.clone_values.specs.Tree.{Tree, undefined, null}
 use Rattle.clone_values.specs.KeyTree.{KeyTree}
@@ -56,6 +57,11 @@ abbrev pub wanted_within : Option (Option KeyTree) → Option (Option KeyTree) �
 wanted_within (Some lower) (Some upper) lower_open upper_open = wanted_between lower upper lower_open upper_open
 wanted_within (Some lower) None lower_open upper_open = no_query
 wanted_within None upper lower_open upper_open = no_query
+
+-- so does how the upper bound lies to the lower one, which says nothing where either is no key
+abbrev pub leave_none : Option Ordering → Bool → Bool
+leave_none None is_open = true
+leave_none (Some order) is_open = is_lt order || (is_eq order && is_open)
 
 -- ---- a query
 abbrev pub wanted : Query → Wanted

@@ -1,7 +1,7 @@
 // What queries ask for (Indexed Database API 3.0, "convert a value to a key range").
-ghost use Rattle.std.specs.Prelude.{◌≡◌, option_map, IfOk};
+ghost use Rattle.std.specs.Prelude.{◌≡◌, Bool, Some, option_map, IfOk};
 ghost use Rattle.clone_values.specs.View.{tree_of, key_tree_of};
-ghost use Rattle.query_ranges.specs.Queries.{is_query_refused, range_of_query, wanted, wanted_key, wanted_one, wanted_bounds, wanted_between, key_given};
+ghost use Rattle.query_ranges.specs.Queries.{is_query_refused, range_of_query, wanted, wanted_key, wanted_one, wanted_bounds, wanted_between, wanted_within, key_given, leave_none};
 ghost use Rattle.key_paths.specs.Conversion.{key_of};
 ghost use Rattle.idb_keys.specs.KeyRange.{bound_at};
 ghost use Rattle.query_ranges.specs.View.{wanted_seen};
@@ -11,8 +11,9 @@ use idb_base::NoMemory;
 use idb_calls::Query;
 use idb_keys::KeyRange;
 use key_order::key_order_laws;
-use key_paths::to_key;
+use key_paths::{compare_values, is_key, to_key};
 use std::alloc::Global;
+use std::cmp::Ordering;
 
 /// What a query asks for.
 #[derive(Drop)]
@@ -50,14 +51,66 @@ pub fn read_query(alloc: Global, query: &Query) -> Result<QueryKeys, NoMemory>
     }
 }
 
-/// Whether what was given is no query, or says nothing where keys must be said.
-pub fn is_query_refused(alloc: Global, must_say: bool, query: &Query) -> Result<bool, NoMemory>
-    ensures { IfOk result (λ r. r ≡ is_query_refused must_say (wanted query.now)) }
+/// Whether what was given is no query, or says nothing where keys must be said. It takes no memory.
+pub fn is_query_refused(must_say: bool, query: &Query) -> bool
+    ensures { result ≡ is_query_refused must_say (wanted query.now) }
 {
-    match read_query(alloc, query)? {
-        QueryKeys::Anything => Ok(must_say),
-        QueryKeys::Keys(_) => Ok(false),
-        QueryKeys::NoQuery => Ok(true),
+    match query {
+        Query::Absent => must_say,
+        Query::One(value) => is_one_refused(must_say, value),
+        Query::Range {
+            lower,
+            upper,
+            lower_open,
+            upper_open,
+        } => is_range_refused(must_say, lower, upper, *lower_open, *upper_open),
+    }
+}
+
+fn is_one_refused(must_say: bool, value: &Value) -> bool
+    ensures { result ≡ is_query_refused must_say (wanted_one (tree_of value.now)) }
+{
+    match value {
+        Value::Undefined | Value::Null => must_say,
+        _ => !is_key(value),
+    }
+}
+
+/// Whether a bound that is given is no key, or no key can lie between the two.
+fn is_range_refused(
+    must_say: bool,
+    lower: &Option<Value>,
+    upper: &Option<Value>,
+    lower_open: bool,
+    upper_open: bool,
+) -> bool
+    ensures { result ≡ is_query_refused must_say
+        (wanted_within (key_given lower.now) (key_given upper.now) lower_open upper_open) }
+{
+    match (lower, upper) {
+        (Some(lower), Some(upper)) => are_refused(lower, upper, lower_open, upper_open),
+        (Some(bound), None) => !is_key(bound),
+        (None, Some(bound)) => !is_key(bound),
+        (None, None) => false,
+    }
+}
+
+/// Whether one of two bounds is no key, or no key can lie between them.
+fn are_refused(lower: &Value, upper: &Value, lower_open: bool, upper_open: bool) -> bool
+    ensures { (must_say : Bool) → result ≡ is_query_refused must_say (wanted_within
+        (option_map Some (key_of (tree_of lower.now))) (option_map Some (key_of (tree_of upper.now)))
+        lower_open upper_open) }
+{
+    leave_none(compare_values(upper, lower), lower_open | upper_open)
+}
+
+/// Whether no key lies between an upper and a lower bound that lie so to each other, or one is no key.
+fn leave_none(order: Option<Ordering>, is_open: bool) -> bool
+    ensures { result ≡ leave_none order is_open }
+{
+    match order {
+        Some(order) => order.is_lt() || (order.is_eq() && is_open),
+        None => true,
     }
 }
 

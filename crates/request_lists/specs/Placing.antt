@@ -4,7 +4,7 @@
 --     after_schema_call          after a call of an upgrade
 --     after_commit, after_abort, after_rest, after_throw
 --     values_of_call, IsCall      the values in a call, and that they are well formed
---     IsRefusal             what was answered is the first cause;  nothing is said of want of memory
+--     IsRefusal             what was answered is the first cause; memory may be wanted where there is none
 --     Becomes               what a front can become by calls
 use Rattle.std.specs.Prelude.{◌≡◌, ℕ, ◌+◌, ◌&&◌, not, Bool, true, false, List, [], ◌∷◌, ◌++◌, if◌then◌else◌, Option, Some, None, ⊤, option_map, unwrap_or}
 use Rattle.std.specs.List.{AllByRecursion}
@@ -176,10 +176,10 @@ IsEvent (Success request result) = IsValue (tree_of result)
 IsEvent (Error request name) = ⊤
 
 -- ---- refusals
--- the name is the first cause; of want of memory nothing is said
+-- the name is the first cause; memory may be wanted only where nothing is refused
 abbrev pub IsRefusal : Refusal → Option ErrorName → Type 0
 IsRefusal (refusal.Name name) found = found ≡ Some name
-IsRefusal refusal.NoMemory found = ⊤
+IsRefusal refusal.NoMemory found = found ≡ None
 
 -- ---- what a front can become
 -- the call was not refused, and the front is the one after it

@@ -1,5 +1,5 @@
 // Why a front refuses a call: the first cause in the order of the standard.
-ghost use Rattle.std.specs.Prelude.{◌≡◌, Some, option_map, IfOk};
+ghost use Rattle.std.specs.Prelude.{◌≡◌, Some, option_map};
 ghost use Rattle.clone_values.specs.View.{tree_of};
 ghost use Rattle.idb_schema.specs.Schemas.{store_of};
 ghost use Rattle.query_ranges.specs.Queries.{wanted};
@@ -9,7 +9,6 @@ use crate::front::TxFront;
 use crate::lookups::{is_deleted, is_store_deleted, store_of};
 use crate::values::{can_clone, is_count_refused, is_key_faulty, lacks_in_line_key};
 use clone_values::Value;
-use idb_base::NoMemory;
 use idb_calls::{Call, Query, Target};
 use idb_keys::ErrorName;
 use idb_schema::{StoreId, StoreInfo};
@@ -17,12 +16,12 @@ use query_ranges::is_query_refused;
 
 impl<H: Drop> TxFront<H> {
     /// The first cause for which the front refuses the request.
-    pub(crate) fn refusal_of(&self, call: &Call) -> Result<Option<ErrorName>, NoMemory>
-        ensures { IfOk result (λ r. r ≡ refusal_of call.now self.now) }
+    pub(crate) fn refusal_of(&self, call: &Call) -> Option<ErrorName>
+        ensures { result ≡ refusal_of call.now self.now }
     {
         match call {
-            Call::Add { store, value, key } => Ok(self.refusal_of_storing(*store, value, key)),
-            Call::Put { store, value, key } => Ok(self.refusal_of_storing(*store, value, key)),
+            Call::Add { store, value, key } => self.refusal_of_storing(*store, value, key),
+            Call::Put { store, value, key } => self.refusal_of_storing(*store, value, key),
             Call::Get { target, query } => self.refusal_of_reading(*target, query, true),
             Call::GetKey { target, query } => self.refusal_of_reading(*target, query, true),
             Call::Count { target, query } => self.refusal_of_reading(*target, query, false),
@@ -37,7 +36,7 @@ impl<H: Drop> TxFront<H> {
                 count,
             } => self.refusal_of_listing(*target, query, *count),
             Call::Delete { store, query } => self.refusal_of_deleting(*store, query),
-            Call::Clear { store } => Ok(self.refusal_of_clearing(*store)),
+            Call::Clear { store } => self.refusal_of_clearing(*store),
             Call::OpenCursor { target, query, .. } => {
                 self.refusal_of_reading(*target, query, false)
             }
@@ -50,9 +49,9 @@ impl<H: Drop> TxFront<H> {
                 key,
                 primary,
             } => self.refusal_of_continue_primary(*cursor, key, primary),
-            Call::Advance { cursor, count } => Ok(self.refusal_of_advance(*cursor, *count)),
+            Call::Advance { cursor, count } => self.refusal_of_advance(*cursor, *count),
             Call::Update { cursor, value } => self.refusal_of_update(*cursor, value),
-            Call::DeleteHere { cursor } => Ok(self.refusal_of_change_here(*cursor)),
+            Call::DeleteHere { cursor } => self.refusal_of_change_here(*cursor),
         }
     }
 
@@ -104,24 +103,19 @@ impl<H: Drop> TxFront<H> {
         None
     }
 
-    fn refusal_of_reading(
-        &self,
-        target: Target,
-        query: &Query,
-        must_say: bool,
-    ) -> Result<Option<ErrorName>, NoMemory>
-        ensures { IfOk result (λ r. r ≡ refusal_of_reading self.now target must_say (wanted query.now)) }
+    fn refusal_of_reading(&self, target: Target, query: &Query, must_say: bool) -> Option<ErrorName>
+        ensures { result ≡ refusal_of_reading self.now target must_say (wanted query.now) }
     {
         if is_deleted(&self.schema, target) {
-            return Ok(Some(ErrorName::InvalidStateError));
+            return Some(ErrorName::InvalidStateError);
         }
         if !self.is_active() {
-            return Ok(Some(ErrorName::TransactionInactiveError));
+            return Some(ErrorName::TransactionInactiveError);
         }
-        if is_query_refused(self.alloc, must_say, query)? {
-            return Ok(Some(ErrorName::DataError));
+        if is_query_refused(must_say, query) {
+            return Some(ErrorName::DataError);
         }
-        Ok(None)
+        None
     }
 
     fn refusal_of_listing(
@@ -129,35 +123,31 @@ impl<H: Drop> TxFront<H> {
         target: Target,
         query: &Query,
         count: Option<i64>,
-    ) -> Result<Option<ErrorName>, NoMemory>
-        ensures { IfOk result (λ r. r ≡ refusal_of_listing self.now target (wanted query.now) count) }
+    ) -> Option<ErrorName>
+        ensures { result ≡ refusal_of_listing self.now target (wanted query.now) count }
     {
         if is_count_refused(count) {
-            return Ok(Some(ErrorName::TypeError));
+            return Some(ErrorName::TypeError);
         }
         self.refusal_of_reading(target, query, false)
     }
 
-    fn refusal_of_deleting(
-        &self,
-        store: StoreId,
-        query: &Query,
-    ) -> Result<Option<ErrorName>, NoMemory>
-        ensures { IfOk result (λ r. r ≡ refusal_of_deleting self.now store (wanted query.now)) }
+    fn refusal_of_deleting(&self, store: StoreId, query: &Query) -> Option<ErrorName>
+        ensures { result ≡ refusal_of_deleting self.now store (wanted query.now) }
     {
         if is_store_deleted(&self.schema, store) {
-            return Ok(Some(ErrorName::InvalidStateError));
+            return Some(ErrorName::InvalidStateError);
         }
         if !self.is_active() {
-            return Ok(Some(ErrorName::TransactionInactiveError));
+            return Some(ErrorName::TransactionInactiveError);
         }
         if self.is_read_only() {
-            return Ok(Some(ErrorName::ReadOnlyError));
+            return Some(ErrorName::ReadOnlyError);
         }
-        if is_query_refused(self.alloc, true, query)? {
-            return Ok(Some(ErrorName::DataError));
+        if is_query_refused(true, query) {
+            return Some(ErrorName::DataError);
         }
-        Ok(None)
+        None
     }
 
     fn refusal_of_clearing(&self, store: StoreId) -> Option<ErrorName>

@@ -20,7 +20,8 @@ use std::alloc::Global;
 
 impl<H: Drop> TxFront<H> {
     /// Places a request with its handler, and gives the request's number. A cursor that goes on places its own request again: its
-    /// own handler goes on, and the one that is handed in is dropped. A front that has had 2^32 - 1 requests answers `NoMemory`.
+    /// own handler goes on, and the one that is handed in is dropped. A refusal takes no memory. A front that has had 2^32 - 1
+    /// requests answers `NoMemory`.
     pub fn place(&mut self, call: Call, handler: H) -> Result<u32, Refused<H>>
         requires { IsCall call }
         ensures taken { OnOk result (refusal_of call self.old ≡ None) }
@@ -32,12 +33,11 @@ impl<H: Drop> TxFront<H> {
         ensures becomes { Becomes self.old self.new }
     {
         match self.refusal_of(&call) {
-            Ok(None) => self.accept(call, handler),
-            Ok(Some(name)) => Err(Refused {
+            None => self.accept(call, handler),
+            Some(name) => Err(Refused {
                 refusal: Refusal::Name(name),
                 handler,
             }),
-            Err(_) => Err(no_memory(handler)),
         }
     }
 

@@ -1,17 +1,13 @@
 // What is asked of the values and keys of a call.
-ghost use Rattle.std.specs.Prelude.{◌≡◌, false, option_map, IfOk};
-ghost use Rattle.clone_values.specs.View.{tree_of, key_tree_of};
-ghost use Rattle.key_paths.specs.Conversion.{key_of};
+ghost use Rattle.std.specs.Prelude.{◌≡◌, false, option_map};
+ghost use Rattle.clone_values.specs.View.{tree_of};
 ghost use Rattle.key_paths.specs.Evaluation.{extracted};
 ghost use Rattle.idb_cursors.specs.View.{row_shown};
-ghost use Rattle.request_lists.specs.Refusals.{can_clone, is_key_faulty, lacks_key, lacks_in_line_key, is_read_count, is_count_refused, is_step, is_key_at, changes_key_by};
+ghost use Rattle.request_lists.specs.Refusals.{can_clone, is_key_faulty, lacks_key, lacks_in_line_key, is_read_count, is_count_refused, is_step, changes_key_by};
 
 use clone_values::{Key, Value, is_cloneable};
-use idb_base::NoMemory;
-use key_order::compare;
-use key_paths::{Extracted, Extraction, could_inject, extract, has_room, is_key, would_extract};
+use key_paths::{Extraction, could_inject, gives_key, has_room, is_key, would_extract};
 use path_grammar::KeyPath;
-use std::alloc::Global;
 
 /// Whether the value can be cloned.
 pub(crate) fn can_clone(value: &Value) -> bool
@@ -71,30 +67,18 @@ pub(crate) fn is_step(count: i64) -> bool
 
 /// Whether the store's key path gives another key than the primary key of the place, or none.
 pub(crate) fn changes_key_by(
-    alloc: Global,
     path: &Option<KeyPath>,
     place: Option<(&Key, &Key)>,
     value: &Value,
-) -> Result<bool, NoMemory>
-    ensures { IfOk result (λ r. r
-        ≡ changes_key_by path.now (option_map row_shown place.entry) (tree_of value.now)) }
+) -> bool
+    ensures { result
+        ≡ changes_key_by path.now (option_map row_shown place.entry) (tree_of value.now) }
 {
     match path {
-        Some(path) => match extract(alloc, path, false, value)? {
-            Extracted::One(key) => Ok(!is_key_at(place, &key)),
-            Extracted::Many(_) => Ok(true),
-            Extracted::Invalid => Ok(true),
-            Extracted::Failure => Ok(true),
+        Some(path) => match place {
+            Some((_, primary)) => !gives_key(path, value, primary),
+            None => true,
         },
-        None => Ok(false),
-    }
-}
-
-fn is_key_at(place: Option<(&Key, &Key)>, key: &Key) -> bool
-    ensures { result ≡ is_key_at (key_tree_of key.now) (option_map row_shown place.entry) }
-{
-    match place {
-        Some((_, primary)) => compare(key, primary).is_eq(),
         None => false,
     }
 }

@@ -3,4 +3,5 @@ pub mod Places
 pub mod Costs
 pub mod Maps
 pub mod Values
+pub mod Splits
 pub mod Laws

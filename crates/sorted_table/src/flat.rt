@@ -3,7 +3,8 @@ ghost use Rattle.std.specs.Prelude.{◌≡◌, ℕ, ◌+◌, ◌-◌, ◌*◌, �
 ghost use Rattle.std.specs.FinMap.{put};
 ghost use Rattle.sorted_table.specs.Tables.{pair_seen, IsSorted, HasKeyAt, BelongsAt, value_there, with_value};
 
-use crate::halving::place_in;
+use crate::cut::Cut;
+use crate::halving::{first_in, place_in};
 use crate::order::Ordered;
 use crate::steps::Steps;
 use crate::table::OrderedTable;
@@ -39,6 +40,10 @@ impl<K: Ordered, V: Drop> OrderedTable<K, V> for FlatTable<K, V> {
 
     fn place_of<L: Ledger>(&self, key: &K, steps: &mut Steps<L>) -> Result<usize, usize> {
         place_in(self.rows.as_slice(), key, steps)
+    }
+
+    fn first_behind<C: Cut<K>, L: Ledger>(&self, cut: &C, steps: &mut Steps<L>) -> usize {
+        first_in(self.rows.as_slice(), cut, steps)
     }
 
     fn nth(&self, place: usize) -> Option<(&K, &V)> {

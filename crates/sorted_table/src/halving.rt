@@ -1,7 +1,9 @@
 // Places in a slice of entries, found by halving.
 ghost use Rattle.std.specs.Prelude.{◌≡◌, ℕ, ◌+◌, ◌-◌, ◌*◌, ◌^◌, ◌≤◌, length, drop, IfOk, IfErr};
+ghost use Rattle.sorted_table.specs.Halves.{IsSplitAt, IsSplitBetween, StaysPassed};
 ghost use Rattle.sorted_table.specs.Tables.{IsSorted, AreAbove, HasKeyAt, BelongsAt};
 
+use crate::cut::Cut;
 use crate::order::Ordered;
 use crate::steps::Steps;
 use std::cmp::Ordering;
@@ -66,4 +68,63 @@ fn place_before<K: Ordered, V: Drop, L: Ledger>(
         }
     }
     Err(low)
+}
+
+/// Whether the key of an entry lies behind the cut, and one step more.
+fn passed<K, C: Cut<K>, L: Ledger>(cut: &C, key: &K, steps: &mut Steps<L>) -> bool
+    ensures value { result ≡ C.passes cut.now key.now }
+    ensures counted { steps.new ≡ steps.old + 1 }
+{
+    steps.tick();
+    cut.passes(key)
+}
+
+/// The place of the first entry whose key lies behind the cut, or the number of entries; the first question is about the last
+/// entry.
+pub(crate) fn first_in<K, V, C: Cut<K>, L: Ledger>(
+    entries: &[(K, V)],
+    cut: &C,
+    steps: &mut Steps<L>,
+) -> usize
+    requires { StaysPassed (λ e. C.passes cut.now e.0) entries.now }
+    ensures split { IsSplitAt (λ e. C.passes cut.now e.0) entries.now result }
+    ensures counted { steps.old ≤ steps.new }
+    ensures cost { 2 ^ (steps.new - steps.old) ≤ 4 * length entries.now + 2 }
+{
+    let count = entries.len();
+    if count == 0 {
+        return 0;
+    }
+    let last = count - 1;
+    if passed(cut, &entries[last].0, steps) {
+        first_before(entries, last, cut, steps)
+    } else {
+        count
+    }
+}
+
+/// The same where those from `high` on lie behind it.
+fn first_before<K, V, C: Cut<K>, L: Ledger>(
+    entries: &[(K, V)],
+    high: usize,
+    cut: &C,
+    steps: &mut Steps<L>,
+) -> usize
+    requires rises { StaysPassed (λ e. C.passes cut.now e.0) entries.now }
+    requires high { IsSplitBetween (λ e. C.passes cut.now e.0) entries.now 0 high }
+    ensures split { IsSplitAt (λ e. C.passes cut.now e.0) entries.now result }
+    ensures counted { steps.old ≤ steps.new }
+    ensures cost { 2 ^ (steps.new - steps.old) ≤ 2 * high + 1 }
+{
+    let mut low = 0;
+    let mut end = high;
+    while low < end {
+        let middle = low + (end - low) / 2;
+        if passed(cut, &entries[middle].0, steps) {
+            end = middle;
+        } else {
+            low = middle + 1;
+        }
+    }
+    low
 }

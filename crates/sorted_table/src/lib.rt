@@ -4,6 +4,7 @@
 // `FlatTable` is one, and `table_laws` says what the words of its contract mean.
 #![tactic(auto)]
 
+mod cut;
 mod flat;
 mod halving;
 mod meanings;
@@ -11,6 +12,7 @@ mod order;
 mod steps;
 mod table;
 
+pub use cut::Cut;
 pub use flat::FlatTable;
 pub use meanings::table_laws;
 pub use order::Ordered;

@@ -1,8 +1,10 @@
 // What every table promises.
 ghost use Rattle.std.specs.Prelude.{◌≡◌, ℕ, ◌+◌, ◌-◌, ◌*◌, ◌^◌, ◌<◌, ◌≤◌, List, Some, length, slice_get, remove, option_map, OnOk, IfOk, IfErr, IsOk};
 ghost use Rattle.std.specs.FinMap.{put};
+ghost use Rattle.sorted_table.specs.Halves.{IsSplitAt, StaysPassed};
 ghost use Rattle.sorted_table.specs.Tables.{pair_seen, IsSorted, Lacks, HasKeyAt, BelongsAt, value_there, with_value};
 
+use crate::cut::Cut;
 use crate::order::Ordered;
 use crate::steps::Steps;
 use idb_base::NoMemory;
@@ -21,6 +23,14 @@ pub trait OrderedTable<K: Ordered, V: Drop>: Drop {
     fn place_of<L: Ledger>(&self, key: &K, steps: &mut Steps<L>) -> Result<usize, usize>
         ensures found { IfOk result (λ place. HasKeyAt K.order (entries self.now) place key.now) }
         ensures absent { IfErr result (λ place. BelongsAt K.order (entries self.now) place key.now) }
+        ensures counted { steps.old ≤ steps.new }
+        ensures cost { 2 ^ (steps.new - steps.old) ≤ 4 * length (entries self.now) + 2 };
+
+    /// The place of the first entry whose key lies behind the cut; where none does, the number of entries. It takes no memory,
+    /// and at most one question more than the number of entries has binary digits.
+    fn first_behind<C: Cut<K>, L: Ledger>(&self, cut: &C, steps: &mut Steps<L>) -> usize
+        requires { StaysPassed (λ e. C.passes cut.now e.0) (entries self.now) }
+        ensures split { IsSplitAt (λ e. C.passes cut.now e.0) (entries self.now) result }
         ensures counted { steps.old ≤ steps.new }
         ensures cost { 2 ^ (steps.new - steps.old) ≤ 4 * length (entries self.now) + 2 };
 

@@ -16,12 +16,10 @@ fn row(key: i64, primary: i64) -> Row {
 }
 
 /// Adds the row if it is not there; whether it did.
-fn put<T: Tables>(rt: &impl Abort, alloc: Global, index: &mut IndexTable<T>, row: Row) -> bool {
+fn put<T: Tables>(rt: &impl Abort, index: &mut IndexTable<T>, row: Row) -> bool {
     let is_new = !index.has(&row);
-    let mut rows = Rows::new(alloc);
-    rows.push(row).expect(rt, "memory");
     index.reserve(1).expect(rt, "memory");
-    index.add_rows(rows);
+    index.add_rows(Rows::one(row));
     is_new
 }
 
@@ -41,18 +39,16 @@ fn replace<T: Tables>(
 
 /// The rows of the record 5 with these index keys.
 fn rows_of(rt: &impl Abort, alloc: Global, keys: &[i64]) -> Rows {
-    let mut rows = Rows::new(alloc);
+    let mut rows = Vec::new(alloc);
     for key in keys {
         rows.push(row(*key, 5)).expect(rt, "memory");
     }
-    rows
+    Rows::from_vec(rows)
 }
 
 /// Removes the row.
-fn take<T: Tables>(rt: &impl Abort, alloc: Global, index: &mut IndexTable<T>, row: Row) {
-    let mut rows = Rows::new(alloc);
-    rows.push(row).expect(rt, "memory");
-    index.remove_rows(&rows);
+fn take<T: Tables>(index: &mut IndexTable<T>, row: Row) {
+    index.remove_rows(&Rows::one(row));
 }
 
 /// The rows of numbers, as `key:primary`.
@@ -96,7 +92,7 @@ fn first_by<T: Tables, L: Ledger>(
 fn five_rows(rt: &impl Abort, alloc: Global) -> IndexTable<FlatTables> {
     let mut index = IndexTable::new(alloc);
     for (key, primary) in [(20, 1), (10, 9), (20, 7), (30, 2), (10, 3), (20, 7)] {
-        let _ = put(rt, alloc, &mut index, row(key, primary));
+        let _ = put(rt, &mut index, row(key, primary));
     }
     index
 }
@@ -114,8 +110,8 @@ fn rows_stand_by_index_key_and_then_by_primary_key(rt: HostRuntime) {
 #[test]
 fn rows_are_removed(rt: HostRuntime) {
     let mut index = five_rows(&rt, rt.alloc());
-    take(&rt, rt.alloc(), &mut index, row(20, 1));
-    take(&rt, rt.alloc(), &mut index, row(20, 2));
+    take(&mut index, row(20, 1));
+    take(&mut index, row(20, 2));
     let shown = listing(&rt, rt.alloc(), &index);
     assert_eq!(rt; shown.as_str(), "10:3 10:9 20:7 30:2 ");
 }
@@ -124,7 +120,7 @@ fn rows_are_removed(rt: HostRuntime) {
 #[test]
 fn rows_are_replaced(rt: HostRuntime) {
     let mut index: IndexTable<FlatTables> = IndexTable::new(rt.alloc());
-    let _ = put(&rt, rt.alloc(), &mut index, row(2, 4));
+    let _ = put(&rt, &mut index, row(2, 4));
     let mut shown = String::new(rt.alloc());
     let lists: [&[i64]; 6] = [
         &[],
@@ -152,7 +148,7 @@ fn rows_are_replaced(rt: HostRuntime) {
 fn a_copy_has_equal_rows(rt: HostRuntime) {
     let index = five_rows(&rt, rt.alloc());
     let mut copy = index.copy(rt.alloc()).expect(&rt, "memory");
-    take(&rt, rt.alloc(), &mut copy, row(30, 2));
+    take(&mut copy, row(30, 2));
     let of_copy = listing(&rt, rt.alloc(), &copy);
     assert_eq!(rt; of_copy.as_str(), "10:3 10:9 20:1 20:7 ");
     let of_index = listing(&rt, rt.alloc(), &index);
@@ -252,10 +248,10 @@ fn the_index_agrees_with_a_plain_list(rt: HostRuntime) {
         let key = i64::from(seed >> 16 & 7);
         let primary = i64::from(seed >> 20 & 7);
         if seed >> 28 < 9 {
-            let _ = put(&rt, rt.alloc(), &mut index, row(key, primary));
+            let _ = put(&rt, &mut index, row(key, primary));
             heap.put(&rt, (key, primary));
         } else {
-            take(&rt, rt.alloc(), &mut index, row(key, primary));
+            take(&mut index, row(key, primary));
             heap.take((key, primary));
         }
         let shown = listing(&rt, rt.alloc(), &index);
@@ -273,13 +269,14 @@ fn the_index_agrees_with_a_plain_list(rt: HostRuntime) {
     assert!(rt; index.len() > 20);
 }
 
-/// A list of rows keeps their order, as do its copy and its vector.
+/// A list of rows keeps their order, as does its copy.
 #[test]
 fn a_list_of_rows_keeps_their_order(rt: HostRuntime) {
-    let mut rows = Rows::new(rt.alloc());
+    let mut rows = Vec::new(rt.alloc());
     rows.push(row(2, 1)).expect(&rt, "memory");
     rows.push(row(1, 2)).expect(&rt, "memory");
-    let copy = Rows::from_vec(rows.copy(rt.alloc()).expect(&rt, "memory").into_vec());
+    let rows = Rows::from_vec(rows);
+    let copy = rows.copy(rt.alloc()).expect(&rt, "memory");
     assert_eq!(rt; copy.len(), 2);
     assert!(rt;
         matches!(

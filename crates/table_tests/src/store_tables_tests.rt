@@ -7,15 +7,13 @@ use std::process::Abort;
 use store_tables::*;
 
 /// Adds a row that leads from this index key to the record 5.
-fn add<T: Tables>(rt: &impl Abort, alloc: Global, index: &mut IndexTable<T>, key: i64) {
-    let mut rows = Rows::new(alloc);
-    rows.push(Row {
+fn add<T: Tables>(rt: &impl Abort, index: &mut IndexTable<T>, key: i64) {
+    let row = Row {
         key: Key::Number(key),
         primary: Key::Number(5),
-    })
-    .expect(rt, "memory");
+    };
     index.reserve(1).expect(rt, "memory");
-    index.add_rows(rows);
+    index.add_rows(Rows::one(row));
 }
 
 /// The index keys of the rows in order.
@@ -42,7 +40,7 @@ fn rows_stand_in_order(rt: HostRuntime) {
     let mut index: IndexTable<LeafTables> = IndexTable::new(alloc);
     let mut expected = String::new(alloc);
     for n in 0i64..200 {
-        add(&rt, alloc, &mut index, n.wrapping_mul(37) % 200);
+        add(&rt, &mut index, n.wrapping_mul(37) % 200);
         write!(expected, "{n} ").expect(&rt, "memory");
     }
     assert_eq!(rt; keys_listed(&rt, alloc, &index).as_str(), expected.as_str());

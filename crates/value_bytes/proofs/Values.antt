@@ -6,7 +6,8 @@ use Rattle.clone_values.specs.Tree.{Tree, Trees, Members, PairTrees, undefined, 
 use Rattle.clone_values.specs.Names.{names_of, is_rising}
 use Rattle.clone_values.specs.WellFormed.{are_values, member_values, pair_values, is_within_limit, is_text, is_byte_string, is_int, is_date, are_once, is_array_name, are_properties}
 use Rattle.clone_values.specs.Values.{depth_of, members_depth, members_hold_function, trees_hold_function}
-use Rattle.clone_values.proofs.Laws.{trees_again, members_again, pairs_again}
+use Rattle.clone_values.proofs.Laws.{trees_again, members_again, pairs_again, array_again, object_again, map_again, set_again}
+use Rattle.clone_values.proofs.Laws as law
 use Rattle.value_bytes.specs.declared.kinds.Kind.{Kind}
 use Rattle.value_bytes.specs.declared.kinds.Kind.TheVariants as kind
 use Rattle.value_bytes.specs.Spelling.{count_bytes, number_bytes, string_bytes, SpellsValue, spelling_of, items_spelling, members_spelling, pairs_spelling}
@@ -122,28 +123,28 @@ module _ (d : ℕ) (value : Format (value_at d) spelling_of (Fits d)) where
       let named = props_formed x.1 good.0.1 in
       let may : list_all is_array_name (names_of (list_of_members (members_of x.1))) ≡ true = ap (λ (l : List (List ℕ × Tree)). list_all is_array_name (names_of l)) (members_again x.1) ∙ good.1 in (
         λ i. 8 ∷ (items_again x.0 i ++ props_again x.1 i),
-        record { formed = λ i. ts.formed i && limit i && ms.formed i && named i && may i; plain = λ i. ts.plain i || ms.plain i; depth = omega (arith, ts.depth, ms.depth) },
+        record { formed = array_again (trees_of x.0) (members_of x.1) (record { items = ts.formed; count = limit; values = ms.formed; props = named; names = may }); plain = λ i. ts.plain i || ms.plain i; depth = omega (arith, ts.depth, ms.depth) },
       )
 
   object_fits : (ms : List (List ℕ × Tree)) → PropsGood ms → (9 ∷ props_word ms ≡ spelling_of (object (members_of ms))) × Fits (suc d) (object (members_of ms))
   object_fits ms good =
       let fit = members_fit d ms good.0.1 in
       let named = props_formed ms good in
-      (ap (λ w. 9 ∷ w) (props_again ms), record { formed = λ i. fit.formed i && named i; plain = fit.plain; depth = omega (arith, fit.depth) })
+      (ap (λ w. 9 ∷ w) (props_again ms), record { formed = object_again (members_of ms) (record { values = fit.formed; props = named }); plain = fit.plain; depth = omega (arith, fit.depth) })
 
   map_fits : (ps : List (Tree × Tree)) → PairsGood ps × (are_once (map (λ p. p.0) ps) ≡ true) → (10 ∷ pairs_word ps ≡ spelling_of (map_object (pairs_of ps))) × Fits (suc d) (map_object (pairs_of ps))
   map_fits ps good =
       let fit = pairs_fit d ps good.0.1 in
       let limit : is_within_limit (list_of_pairs (pairs_of ps)) ≡ true = ap (λ (l : List (Tree × Tree)). is_within_limit l) (pairs_again ps) ∙ within_limit ps good.0.0 in
       let once : are_once (map (λ p. p.0) (list_of_pairs (pairs_of ps))) ≡ true = ap (λ (l : List (Tree × Tree)). are_once (map (λ p. p.0) l)) (pairs_again ps) ∙ good.1 in
-      (ap (λ w. 10 ∷ w) (pairs_once_more ps), record { formed = λ i. fit.formed i && limit i && once i; plain = fit.plain; depth = omega (arith, fit.depth) })
+      (ap (λ w. 10 ∷ w) (pairs_once_more ps), record { formed = map_again (pairs_of ps) (record { pairs = fit.formed; count = limit; once = once }); plain = fit.plain; depth = omega (arith, fit.depth) })
 
   set_fits : (ts : List Tree) → ItemsGood ts × (are_once ts ≡ true) → (11 ∷ items_word ts ≡ spelling_of (set_object (trees_of ts))) × Fits (suc d) (set_object (trees_of ts))
   set_fits ts good =
       let fit = items_fit d ts good.0.1 in
       let limit : is_within_limit (list_of_trees (trees_of ts)) ≡ true = ap (λ (l : List Tree). is_within_limit l) (trees_again ts) ∙ within_limit ts good.0.0 in
       let once : are_once (list_of_trees (trees_of ts)) ≡ true = ap are_once (trees_again ts) ∙ good.1 in
-      (ap (λ w. 11 ∷ w) (items_again ts), record { formed = λ i. fit.formed i && limit i && once i; plain = fit.plain; depth = omega (arith, fit.depth) })
+      (ap (λ w. 11 ∷ w) (items_again ts), record { formed = set_again (trees_of ts) (record { items = fit.formed; count = limit; once = once }); plain = fit.plain; depth = omega (arith, fit.depth) })
 
   single : (b : ℕ) (t : Tree) (bs : List ℕ) (x : Tree × List ℕ) → spelling_of t ≡ b ∷ [] → Fits (suc d) t → IsBytes bs → Some (t, bs) ≡ Some x → Gave spelling_of (Fits (suc d)) (b ∷ bs) x
   single b t bs x word fine fits e = subst (λ y. Gave spelling_of (Fits (suc d)) (b ∷ bs) y) (some_is (t, bs) x e) (record { parts = ap (λ w. w ++ bs) (sym word); rest = fits; fits = fine })
@@ -187,34 +188,32 @@ module _ (d : ℕ) (value : Format (value_at d) spelling_of (Fits d)) where
   value_again (date z) rest f = remade date (checked_at is_date whole_number_at) number_bytes (λ n. is_date n ≡ true) (number is_date date_fits) z rest f.formed
   value_again (bytes s) rest f = remade bytes string_at string_bytes (λ b. is_byte_string b ≡ true) byte_string s rest f.formed
   value_again (array ts ms) rest f =
-      let last = first_so (are_values ts && is_within_limit (list_of_trees ts) && member_values ms && are_properties (list_of_members ms)) (list_all is_array_name (names_of (list_of_members ms))) f.formed in
-      let may = second_so (are_values ts && is_within_limit (list_of_trees ts) && member_values ms && are_properties (list_of_members ms)) (list_all is_array_name (names_of (list_of_members ms))) f.formed in
-      let parts = three (are_values ts && is_within_limit (list_of_trees ts)) (member_values ms) (are_properties (list_of_members ms)) last in
+      let parts = law.array_fits ts ms f.formed in
       let plain = neither (trees_hold_function ts) (members_hold_function ms) f.plain in
-      let each = items_each d ts (record { formed = first_so (are_values ts) (is_within_limit (list_of_trees ts)) parts.0; plain = plain.0; depth = omega (arith, f.depth) }) in
-      let limit = limit_within (list_of_trees ts) (second_so (are_values ts) (is_within_limit (list_of_trees ts)) parts.0) in
-      let named = props_good ms parts.1 parts.2 plain.1 (omega (arith, f.depth)) in
+      let each = items_each d ts (record { formed = parts.items; plain = plain.0; depth = omega (arith, f.depth) }) in
+      let limit = limit_within (list_of_trees ts) parts.count in
+      let named = props_good ms parts.values parts.props plain.1 (omega (arith, f.depth)) in
       (λ i. mapped_at (λ l. array (trees_of l.0) (members_of l.1)) (array_at (value_at d)) ((items_same ts i ++ props_same ms i) ++ rest))
       ∙ remade (λ l. array (trees_of l.0) (members_of l.1)) (array_at (value_at d)) (λ l. items_word l.0 ++ props_word l.1)
-      (λ l. (ItemsGood l.0 × PropsGood l.1) × (list_all is_array_name (names_of l.1) ≡ true)) arrays (list_of_trees ts, list_of_members ms) rest (((limit, each), named), may)
+      (λ l. (ItemsGood l.0 × PropsGood l.1) × (list_all is_array_name (names_of l.1) ≡ true)) arrays (list_of_trees ts, list_of_members ms) rest (((limit, each), named), parts.names)
       ∙ (λ i. Some (array (trees_listed ts i) (members_listed ms i), rest))
   value_again (object ms) rest f =
-      let parts = second_so (member_values ms) (are_properties (list_of_members ms)) f.formed in
-      let good = props_good ms (first_so (member_values ms) (are_properties (list_of_members ms)) f.formed) parts f.plain (omega (arith, f.depth)) in
+      let parts = law.object_fits ms f.formed in
+      let good = props_good ms parts.values parts.props f.plain (omega (arith, f.depth)) in
       ap (λ w. mapped_at (λ l. object (members_of l)) (properties_at (value_at d)) (w ++ rest)) (props_same ms)
       ∙ remade (λ l. object (members_of l)) (properties_at (value_at d)) props_word PropsGood props (list_of_members ms) rest good
       ∙ ap (λ l. Some (object l, rest)) (members_listed ms)
   value_again (map_object ps) rest f =
-      let parts = three (pair_values ps) (is_within_limit (list_of_pairs ps)) (are_once (map (λ p. p.0) (list_of_pairs ps))) f.formed in
-      let each = pairs_each d ps (record { formed = parts.0; plain = f.plain; depth = omega (arith, f.depth) }) in
+      let parts = law.map_fits ps f.formed in
+      let each = pairs_each d ps (record { formed = parts.pairs; plain = f.plain; depth = omega (arith, f.depth) }) in
       ap (λ w. mapped_at (λ l. map_object (pairs_of l)) (map_at (value_at d)) (w ++ rest)) (pairs_same ps)
-      ∙ remade (λ l. map_object (pairs_of l)) (map_at (value_at d)) pairs_word (λ l. PairsGood l × (are_once (map (λ p. p.0) l) ≡ true)) maps (list_of_pairs ps) rest ((limit_within (list_of_pairs ps) parts.1, each), parts.2)
+      ∙ remade (λ l. map_object (pairs_of l)) (map_at (value_at d)) pairs_word (λ l. PairsGood l × (are_once (map (λ p. p.0) l) ≡ true)) maps (list_of_pairs ps) rest ((limit_within (list_of_pairs ps) parts.count, each), parts.once)
       ∙ ap (λ l. Some (map_object l, rest)) (pairs_listed ps)
   value_again (set_object ts) rest f =
-      let parts = three (are_values ts) (is_within_limit (list_of_trees ts)) (are_once (list_of_trees ts)) f.formed in
-      let each = items_each d ts (record { formed = parts.0; plain = f.plain; depth = omega (arith, f.depth) }) in
+      let parts = law.set_fits ts f.formed in
+      let each = items_each d ts (record { formed = parts.items; plain = f.plain; depth = omega (arith, f.depth) }) in
       ap (λ w. mapped_at (λ l. set_object (trees_of l)) (set_at (value_at d)) (w ++ rest)) (items_same ts)
-      ∙ remade (λ l. set_object (trees_of l)) (set_at (value_at d)) items_word (λ l. ItemsGood l × (are_once l ≡ true)) sets (list_of_trees ts) rest ((limit_within (list_of_trees ts) parts.1, each), parts.2)
+      ∙ remade (λ l. set_object (trees_of l)) (set_at (value_at d)) items_word (λ l. ItemsGood l × (are_once l ≡ true)) sets (list_of_trees ts) rest ((limit_within (list_of_trees ts) parts.count, each), parts.once)
       ∙ ap (λ l. Some (set_object l, rest)) (trees_listed ts)
   value_again function rest f = absurd (true≢false f.plain)
 

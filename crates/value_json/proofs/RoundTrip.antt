@@ -8,6 +8,7 @@ use Rattle.std.proofs.lemmas.Bool.{ltb-true, leb-false, lt-ltb}
 use Rattle.clone_values.specs.Tree.{Tree, Trees, Members, PairTrees, undefined, null, boolean, int, text, date, bytes, array, object, map_object, set_object, function, no_trees, tree_more, no_members, member_more, no_pairs, pair_more, trees_of, members_of, pairs_of, list_of_trees, list_of_members, list_of_pairs}
 use Rattle.clone_values.specs.Names.{names_of, is_rising, set_members}
 use Rattle.clone_values.specs.WellFormed.{is_value, are_values, member_values, pair_values, are_once, is_int, is_date, is_within_limit, is_text, is_byte, is_byte_string, is_array_name, are_properties}
+use Rattle.clone_values.proofs.Laws.{array_fits, object_fits, map_fits, set_fits}
 use Rattle.serde_json.specs.Data.{Data, put}
 use Rattle.serde_json.specs.Data as json
 use Rattle.serde_json.specs.Events.{items_len, members_len}
@@ -112,17 +113,14 @@ array_back : (ts : Trees) (ms : Members) → is_value (array ts ms) ≡ true →
 array_back ts ms h items named = by ms h named
   where
     few : (ms : Members) → is_value (array ts ms) ≡ true → short_list (items_len (items_of (items_json ts))) (trees_in (items_of (items_json ts))) ≡ Some (list_of_trees ts)
-    few ms h = short_back _ _ _ _ (items_count ts)
-        (second_so (are_values ts) (is_within_limit (list_of_trees ts)) (first_so (are_values ts && is_within_limit (list_of_trees ts)) (member_values ms) (first_so (are_values ts && is_within_limit (list_of_trees ts) && member_values ms) (are_properties (list_of_members ms)) (first_so (are_values ts && is_within_limit (list_of_trees ts) && member_values ms && are_properties (list_of_members ms)) (list_all is_array_name (names_of (list_of_members ms))) h)))) items
+    few ms h = short_back _ _ _ _ (items_count ts) (array_fits ts ms h).count items
 
     by : (ms : Members) → is_value (array ts ms) ≡ true → pairs_in (items_of (named_json ms)) ≡ Some (texted (list_of_members ms)) → ReadsBack (array ts ms)
     by no_members h named = ap (option_map plain_array) (few no_members h) ∙ ap (λ w. Some (array w no_members)) (trees_again ts)
     by (member_more n t ms) h named =
         let all = member_more n t ms in
-        let front = first_so (are_values ts && is_within_limit (list_of_trees ts) && member_values all && are_properties (list_of_members all)) (list_all is_array_name (names_of (list_of_members all))) h in
-        let names = second_so (are_values ts && is_within_limit (list_of_trees ts) && member_values all) (are_properties (list_of_members all)) front in
-        let stand = second_so (are_values ts && is_within_limit (list_of_trees ts) && member_values all && are_properties (list_of_members all)) (list_all is_array_name (names_of (list_of_members all))) h in
-        (λ i. full_array (few all h i) (named_list true all names stand named i)) ∙ (λ i. Some (array (trees_again ts i) (members_listed all i)))
+        let fits = array_fits ts all h in
+        (λ i. full_array (few all h i) (named_list true all fits.props fits.names named i)) ∙ (λ i. Some (array (trees_again ts i) (members_listed all i)))
 
 object_back : (ms : Members) → is_value (object ms) ≡ true → pairs_in (items_of (named_json ms)) ≡ Some (texted (list_of_members ms)) → members_in (in_order ms) ≡ Some (list_of_members ms) → ReadsBack (object ms)
 object_back ms h named members = by (any_marked_name ms) refl
@@ -131,7 +129,7 @@ object_back ms h named members = by (any_marked_name ms) refl
     list = list_of_members ms
 
     names : are_properties (list_of_members ms) ≡ true
-    names = second_so (member_values ms) (are_properties (list_of_members ms)) h
+    names = (object_fits ms h).props
 
     placed : members_json json.no_members ms ≡ in_order ms
     placed = members_in_order ms (rising (list_of_members ms) names)
@@ -150,17 +148,16 @@ object_back ms h named members = by (any_marked_name ms) refl
 
 set_back : (ts : Trees) → is_value (set_object ts) ≡ true → trees_in (items_of (items_json ts)) ≡ Some (list_of_trees ts) → ReadsBack (set_object ts)
 set_back ts h items =
-    let front = first_so (are_values ts && is_within_limit (list_of_trees ts)) (are_once (list_of_trees ts)) h in
-    ap (option_map (λ w. set_object (trees_of (set_of w)))) (short_back _ _ _ _ (items_count ts) (second_so (are_values ts) (is_within_limit (list_of_trees ts)) front) items)
-    ∙ ap (λ w. Some (set_object (trees_of w))) (set_same (list_of_trees ts) [] (second_so (are_values ts && is_within_limit (list_of_trees ts)) (are_once (list_of_trees ts)) h))
+    let fits = set_fits ts h in
+    ap (option_map (λ w. set_object (trees_of (set_of w)))) (short_back _ _ _ _ (items_count ts) fits.count items)
+    ∙ ap (λ w. Some (set_object (trees_of w))) (set_same (list_of_trees ts) [] fits.once)
     ∙ ap (λ w. Some (set_object w)) (trees_again ts)
 
 map_back : (ps : PairTrees) → is_value (map_object ps) ≡ true → pairs_in (items_of (pairs_json ps)) ≡ Some (list_of_pairs ps) → ReadsBack (map_object ps)
 map_back ps h pairs =
-    let keys = are_once (map (λ p. p.0) (list_of_pairs ps)) in
-    let front = first_so (pair_values ps && is_within_limit (list_of_pairs ps)) keys h in
-    ap (option_map (λ w. map_object (pairs_of (map_of w)))) (short_back _ _ _ _ (pairs_count ps) (second_so (pair_values ps) (is_within_limit (list_of_pairs ps)) front) pairs)
-    ∙ ap (λ w. Some (map_object (pairs_of w))) (map_same (list_of_pairs ps) [] (second_so (pair_values ps && is_within_limit (list_of_pairs ps)) keys h))
+    let fits = map_fits ps h in
+    ap (option_map (λ w. map_object (pairs_of (map_of w)))) (short_back _ _ _ _ (pairs_count ps) fits.count pairs)
+    ∙ ap (λ w. Some (map_object (pairs_of w))) (map_same (list_of_pairs ps) [] fits.once)
     ∙ ap (λ w. Some (map_object w)) (pairs_again ps)
 
 text_back : (s : List ℕ) → is_text s ≡ true → text_in s ≡ Some (text s)
@@ -177,13 +174,6 @@ named_more : (name : List ℕ) (o : Option Tree) (t : Tree) (q : Option (List (L
     → (if is_text name then option_and_then (λ a. option_map (λ ps. (name, a) ∷ ps) q) o else None) ≡ Some ((name, t) ∷ ms)
 named_more name o t q ms h e f = λ i. if h i then option_and_then (λ a. option_map (λ ps. (name, a) ∷ ps) (f i)) (e i) else None
 
-array_values : (ts : Trees) (ms : Members) → is_value (array ts ms) ≡ true → (are_values ts ≡ true) × (member_values ms ≡ true) × (list_all is_text (names_of (list_of_members ms)) ≡ true)
-array_values ts ms h =
-    let front = first_so (are_values ts && is_within_limit (list_of_trees ts) && member_values ms && are_properties (list_of_members ms)) (list_all is_array_name (names_of (list_of_members ms))) h in
-    let values = first_so (are_values ts && is_within_limit (list_of_trees ts) && member_values ms) (are_properties (list_of_members ms)) front in
-    let names = second_so (are_values ts && is_within_limit (list_of_trees ts) && member_values ms) (are_properties (list_of_members ms)) front in
-    (first_so (are_values ts) (is_within_limit (list_of_trees ts)) (first_so (are_values ts && is_within_limit (list_of_trees ts)) (member_values ms) values), second_so (are_values ts && is_within_limit (list_of_trees ts)) (member_values ms) values, sizes (list_of_members ms) names)
-
 mutual
   pub reads_back : (t : Tree) → is_value t ≡ true → ReadsBack t
   reads_back undefined h = refl
@@ -194,16 +184,14 @@ mutual
   reads_back (date z) h = date_back z h
   reads_back (bytes b) h = bytes_back b h
   reads_back (array ts ms) h =
-      let parts = array_values ts ms h in
-      array_back ts ms h (trees_back ts parts.0) (named_back ms parts.1 parts.2)
+      let fits = array_fits ts ms h in
+      array_back ts ms h (trees_back ts fits.items) (named_back ms fits.values (sizes (list_of_members ms) fits.props))
   reads_back (object ms) h =
-      let values = first_so (member_values ms) (are_properties (list_of_members ms)) h in
-      let names = sizes (list_of_members ms) (second_so (member_values ms) (are_properties (list_of_members ms)) h) in
-      object_back ms h (named_back ms values names) (members_back ms values names)
-  reads_back (map_object ps) h =
-      map_back ps h (pairs_back ps (first_so (pair_values ps) (is_within_limit (list_of_pairs ps)) (first_so (pair_values ps && is_within_limit (list_of_pairs ps)) (are_once (map (λ p. p.0) (list_of_pairs ps))) h)))
-  reads_back (set_object ts) h =
-      set_back ts h (trees_back ts (first_so (are_values ts) (is_within_limit (list_of_trees ts)) (first_so (are_values ts && is_within_limit (list_of_trees ts)) (are_once (list_of_trees ts)) h)))
+      let fits = object_fits ms h in
+      let names = sizes (list_of_members ms) fits.props in
+      object_back ms h (named_back ms fits.values names) (members_back ms fits.values names)
+  reads_back (map_object ps) h = map_back ps h (pairs_back ps (map_fits ps h).pairs)
+  reads_back (set_object ts) h = set_back ts h (trees_back ts (set_fits ts h).items)
   reads_back function h = refl
 
   trees_back : (ts : Trees) → are_values ts ≡ true → trees_in (items_of (items_json ts)) ≡ Some (list_of_trees ts)

@@ -6,7 +6,7 @@ use Rattle.std.specs.List.{list_all}
 use Rattle.clone_values.specs.Tree.{Tree, int, text, date, bytes, array, map_object, set_object, trees_of, members_of, pairs_of, list_of_members}
 use Rattle.clone_values.specs.Names.{names_of, set_members}
 use Rattle.clone_values.specs.WellFormed.{is_value, IsValue, are_values, member_values, pair_values, are_once, is_int, is_date, is_within_limit, is_text, is_byte_string, is_array_name, are_properties}
-use Rattle.clone_values.proofs.Laws.{trees_again, members_again, pairs_again, both_so}
+use Rattle.clone_values.proofs.Laws.{trees_again, members_again, pairs_again, both_so, array_again, object_again, map_again, set_again}
 use Rattle.clone_values.specs.View.{tree_of}
 use Rattle.clone_values.specs.declared.value_types.Value.{Value}
 use Rattle.serde_json.specs.Data.{Data, Num, Members}
@@ -118,12 +118,17 @@ properties of_array ms h =
     ap are_properties (members_again ms) ∙ both_so (is_within_limit ms && list_all is_text (names_of ms)) _ (both_so (is_within_limit ms) _ (within ms h.1) (sizes_apart of_array ms h.0.0)) h.0.1
 
 object_good : (ms : List (List ℕ × Tree)) → Named false ms → IsValue (plain_object ms)
-object_good ms h = both_so (member_values (members_of ms)) _ (values_apart false ms h.0.0) (properties false ms h)
+object_good ms h = object_again (members_of ms) (record { values = values_apart false ms h.0.0; props = properties false ms h })
 
 array_good : (ts : List Tree) (ms : List (List ℕ × Tree)) → Items ts → Named true ms → IsValue (array (trees_of ts) (members_of ms))
 array_good ts ms h k =
-    let items = both_so (are_values (trees_of ts)) _ h.0 (ap is_within_limit (trees_again ts) ∙ within ts h.1) in
-    both_so _ _ (both_so _ _ (both_so _ _ items (values_apart true ms k.0.0)) (properties true ms k)) (ap (λ w. list_all is_array_name (names_of w)) (members_again ms) ∙ names_apart ms k.0.0)
+    array_again (trees_of ts) (members_of ms) (record {
+      items = h.0;
+      count = ap is_within_limit (trees_again ts) ∙ within ts h.1;
+      values = values_apart true ms k.0.0;
+      props = properties true ms k;
+      names = ap (λ w. list_all is_array_name (names_of w)) (members_again ms) ∙ names_apart ms k.0.0;
+    })
 
 plain_array_good : (ts : List Tree) → Items ts → IsValue (plain_array ts)
 plain_array_good ts h = array_good ts [] h ((refl, refl), omega arith)
@@ -131,12 +136,20 @@ plain_array_good ts h = array_good ts [] h ((refl, refl), omega arith)
 set_good : (ts : List Tree) → Items ts → IsValue (set_object (trees_of (set_of ts)))
 set_good ts h =
     let kept = set_kept ts [] h.0 (refl, refl) in
-    both_so _ _ (both_so _ _ kept.0.0 (ap is_within_limit (trees_again (set_of ts)) ∙ within (set_of ts) (omega (arith, kept.1, h.1)))) (ap are_once (trees_again (set_of ts)) ∙ kept.0.1)
+    set_again (trees_of (set_of ts)) (record {
+      items = kept.0.0;
+      count = ap is_within_limit (trees_again (set_of ts)) ∙ within (set_of ts) (omega (arith, kept.1, h.1));
+      once = ap are_once (trees_again (set_of ts)) ∙ kept.0.1;
+    })
 
 map_good : (ps : List (Tree × Tree)) → Pairs ps → IsValue (map_object (pairs_of (map_of ps)))
 map_good ps h =
     let kept = map_kept ps [] h.0 (refl, refl) in
-    both_so _ _ (both_so _ _ kept.0.0 (ap is_within_limit (pairs_again (map_of ps)) ∙ within (map_of ps) (omega (arith, kept.1, h.1)))) (ap (λ w. are_once (map (λ p. p.0) w)) (pairs_again (map_of ps)) ∙ kept.0.1)
+    map_again (pairs_of (map_of ps)) (record {
+      pairs = kept.0.0;
+      count = ap is_within_limit (pairs_again (map_of ps)) ∙ within (map_of ps) (omega (arith, kept.1, h.1));
+      once = ap (λ w. are_once (map (λ p. p.0) w)) (pairs_again (map_of ps)) ∙ kept.0.1;
+    })
 
 set_named : (of_array : Bool) (ms : List (List ℕ × Tree)) → Counted (AreNamed of_array) 4294967295 ms → Named of_array (set_members [] ms)
 set_named of_array ms h = let kept = properties_kept of_array ms [] h.0 (refl, refl) in (kept.0, omega (arith, kept.1, h.1))

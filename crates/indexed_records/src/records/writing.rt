@@ -86,6 +86,7 @@ impl<T: Tables> IndexedRecords<T> {
         self.row_spare -= rows.count();
         add_to_each(&mut self.tables, rows);
         put_record(&mut self.records, place, key, value);
+        self.behind = place.saturating_add(1);
     }
 
     /// Puts another value into the record at this place, and gives the one that it had; of its old rows those go that the
@@ -116,6 +117,7 @@ impl<T: Tables> IndexedRecords<T> {
         ensures row_spare { self.old.row_spare ≤ self.new.row_spare + rows_among new_rows }
     {
         self.row_spare -= new_rows.count();
+        self.behind = place.saturating_add(1);
         replace_in_each(&mut self.tables, old_rows, new_rows);
         replace_record(&mut self.records, place, value)
     }
@@ -138,6 +140,7 @@ impl<T: Tables> IndexedRecords<T> {
         ensures spare { self.new.record_spare ≡ self.old.record_spare }
         ensures row_spare { self.new.row_spare ≡ self.old.row_spare }
     {
+        self.behind = place.saturating_add(1);
         replace_record(&mut self.records, place, value)
     }
 
@@ -215,6 +218,7 @@ impl<T: Tables> IndexedRecords<T> {
             records,
             tables,
             row_spare: 0,
+            behind: 0,
         })
     }
 }

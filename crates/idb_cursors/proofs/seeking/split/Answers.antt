@@ -1,5 +1,5 @@
 use Rattle.std.proofs.Common.{◌-◌, arith}
-use Rattle.index_tables.proofs.Laws.{split_below, split_above}
+use Rattle.sorted_table.proofs.Laws.{split_below, split_above}
 use Rattle.idb_cursors.specs.View.{turn_seen}
 use Rattle.idb_cursors.specs.Seeking.{is_behind}
 use Rattle.idb_cursors.proofs.Costs.{halved}

@@ -1,16 +1,25 @@
-use Rattle.std.proofs.Common.{arith, Some, ◌-◌}
+use Rattle.std.proofs.Common.{Some, subst, sym, ◌∙◌, arith}
 use Rattle.clone_values.specs.View.{key_tree_of}
 use Rattle.idb_keys.specs.KeyRange.{bound_at}
-use Rattle.sorted_table.proofs.Laws.{one_more}
-use Rattle.index_tables.proofs.Halving.{unsplit, split_below, split_from}
+use Rattle.sorted_table.proofs.Laws.{rises_on, split_on}
+use Rattle.index_tables.specs.Rows.{row_meets}
+use Rattle.index_tables.specs.View.{row_of, row_set}
+use Rattle.index_tables.specs.Halves.{IsSplitAt, StaysPassed}
 use Rattle.index_tables.proofs.Meeting.{rows_rise}
+use Rattle.index_tables.proofs.TableRows.{rows_of_set, count_of_set}
 use Rattle.index_tables.proofs.searching.first_meeting.Goals as goal
 
-pub first_before-requires : goal.first_before-requires
-first_before-requires g c = split_below _ _ 0 _ c.count_in-count.result (rows_rise (Some (bound_at (key_tree_of c.args.lower.now) c.args.is_open)) _) (unsplit _ _ _ c.count_in-count.ensures.listed) (omega arith) (omega (arith, c.if-count-eq0.false)) c.meets_at.result c.meets_at.ensures.value c.if-meets_at.true
+pub first_behind-requires : goal.first_behind-requires
+first_behind-requires g c =
+    let es = g.R.OrderedTable.entries c.args.table.now in
+    let test = row_meets (Some (bound_at (key_tree_of c.args.lower.now) c.args.is_open)) in
+    rises_on (λ e. row_of e.0) test es (subst (StaysPassed test) (rows_of_set es (g.met.R.OrderedTable.rises c.args.table.now)) (rows_rise (Some (bound_at (key_tree_of c.args.lower.now) c.args.is_open)) (row_set es)))
 
-pub returns-then-meets_at-clause-cost : goal.returns-then-meets_at-clause-cost
-returns-then-meets_at-clause-cost g c = rw (← c.count_in-count.ensures.value) (one_more _ _ _ _ c.meets_at.ensures.counted c.first_before.ensures.counted c.first_before.ensures.cost (omega (arith, c.if-count-eq0.false)))
+pub returns-clause-split : goal.returns-clause-split
+returns-clause-split g c =
+    let es = g.R.OrderedTable.entries c.args.table.now in
+    let test = row_meets (Some (bound_at (key_tree_of c.args.lower.now) c.args.is_open)) in
+    subst (λ rows. IsSplitAt test rows c.first_behind.result) (sym (rows_of_set es (g.met.R.OrderedTable.rises c.args.table.now))) (split_on (λ e. row_of e.0) test es _ _ c.first_behind.ensures.split)
 
-pub returns-else-meets_at-clause-split : goal.returns-else-meets_at-clause-split
-returns-else-meets_at-clause-split g c = split_from _ _ (c.count_in-count.result - 1) _ (rows_rise (Some (bound_at (key_tree_of c.args.lower.now) c.args.is_open)) _) c.count_in-count.ensures.listed (omega (arith, c.if-count-eq0.false)) c.meets_at.result c.meets_at.ensures.value c.if-meets_at.false
+pub returns-clause-cost : goal.returns-clause-cost
+returns-clause-cost g c = rw (count_of_set _ (g.met.R.OrderedTable.rises c.args.table.now)) c.first_behind.ensures.cost

@@ -1,6 +1,0 @@
-use Rattle.clone_values.proofs.Laws.{stands_from_got}
-use Rattle.index_tables.specs.View.{row_of}
-use Rattle.index_tables.proofs.rows.Rows.at.Goals as goal
-
-pub returns-clause-stands : goal.returns-clause-stands
-returns-clause-stands c = stands_from_got row_of _ _ _ _ _ c.self.view_is c.deref.ensures.value c.get.ensures.lookup.3 c.get.ensures.lookup.1
