@@ -1,15 +1,19 @@
-use Rattle.std.proofs.Common.{sym, ap, ◌∙◌, not}
+use Rattle.std.proofs.Common.{sym, ap, ◌∙◌, not, arith}
 use Rattle.std.specs.Ordering.{eq_by_cmp}
 use Rattle.std.specs.FinMap.Entries.{is_sorted-where_key}
 use Rattle.item_changes.specs.Items.{name_cmp}
 use Rattle.item_changes.proofs.Laws.{names_total, one_name}
-use Rattle.sorted_table.proofs.Laws.{removed}
+use Rattle.sorted_table.proofs.Laws.{place_within, removed}
 use Rattle.idb_databases.proofs.Laws.{all_found, all_without}
 use Rattle.live_stores.specs.Slots.{slot_now, stores_now, IsGiven}
 use Rattle.live_stores.proofs.Shown.{without_hides}
 use Rattle.live_stores.proofs.Places.{found_here, now_here, none_here, remove_none}
 use Rattle.live_stores.proofs.Endings.{held_there, given_slots}
 use Rattle.live_stores.proofs.giving.take_given.Goals as goal
+
+pub remove-slot-requires : goal.remove-slot-requires
+remove-slot-requires g c =
+    omega (arith, place_within c.args.items.now.items c.in-Ok.place c.args.name.now (rw c.deref.ensures.value at c.in-Ok.ensures.found))
 
 pub returns-in-Ok-clause-store : goal.returns-in-Ok-clause-store
 returns-in-Ok-clause-store g c = (held_there c.args.name.now c.remove-slot.result.1 _ (all_found name_cmp one_name IsGiven c.args.name.now c.args.items.now.items c.remove-slot.result.1 c.requires.sound (found_here c.args.items.now.items c.args.name.now c.in-Ok.place c.remove-slot.result (rw c.deref.ensures.value at c.in-Ok.ensures.found) c.remove-slot.ensures.value)) c.held_given.ensures).0 ∙ sym (now_here c.args.items.now.items c.args.name.now c.in-Ok.place c.remove-slot.result (given_slots c.args.items.now.items c.requires) (rw c.deref.ensures.value at c.in-Ok.ensures.found) c.remove-slot.ensures.value)

@@ -1,12 +1,16 @@
-use Rattle.std.proofs.Common.{Some, sym, subst}
+use Rattle.std.proofs.Common.{Some, sym, subst, arith}
 use Rattle.std.proofs.lemmas.Result.{IfOk-weaker}
 use Rattle.clone_values.specs.View.{tree_of}
 use Rattle.live_stores.specs.Slots.{IsNamedIf}
 use Rattle.live_stores.specs.Changing.{change_run, CanRunOn}
 use Rattle.live_stores.proofs.Places.{now_here, set_keeps_now, set_keeps_before, set_slots, set_changed, set_none, none_changed, named_here, err_weaker}
-use Rattle.sorted_table.proofs.Laws.{absent}
+use Rattle.sorted_table.proofs.Laws.{place_within, absent}
 use Rattle.item_changes.proofs.Laws.{names_total}
 use Rattle.live_stores.proofs.standing.change_in.Goals as goal
+
+pub index_mut-requires : goal.index_mut-requires
+index_mut-requires g c =
+    omega (arith, place_within c.args.items.now.items c.in-Ok.place c.args.names.now.store (rw c.deref.ensures.value at c.in-Ok.ensures.found))
 
 pub run_here-requires-after_bounds : goal.run_here-requires-after_bounds
 run_here-requires-after_bounds g c κs within = subst (CanRunOn c.args.change) (now_here c.args.items.now.items c.args.names.now.store c.in-Ok.place c.index_mut.result.now c.requires.slots (rw c.deref.ensures.value at c.in-Ok.ensures.found) c.index_mut.ensures.value) c.requires.can
