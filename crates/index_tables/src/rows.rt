@@ -3,7 +3,7 @@ ghost use Rattle.std.specs.Prelude.{◌≡◌, ◌≤◌, [], ◌∷◌, ◌++�
 ghost use Rattle.std.specs.Option.{option_copied};
 ghost use Rattle.idb_base.specs.Lists.{StandsAt};
 ghost use Rattle.index_tables.specs.View.{row_of};
-ghost use Rattle.index_tables.specs.Orders.{by_row_order, by_row_order_total, by_row_order_same};
+ghost use Rattle.index_tables.specs.Orders.{by_row_order, by_row_order_total, by_row_order_same, abbreviated_row, abbreviated_row_tells};
 
 use clone_values::Key;
 use idb_base::NoMemory;
@@ -37,6 +37,8 @@ impl Clone for Row {
 impl Ordered for Row {
     ghost order = { by_row_order };
 
+    ghost abbreviated = { abbreviated_row };
+
     fn order(&self, other: &Row) -> Ordering {
         match compare(&self.key, &other.key) {
             Ordering::Equal => compare(&self.primary, &other.primary),
@@ -44,9 +46,15 @@ impl Ordered for Row {
         }
     }
 
+    fn abbreviated(&self) -> Option<i64> {
+        self.key.abbreviated()
+    }
+
     ghost total = { by_row_order_total };
 
     ghost same = { by_row_order_same };
+
+    ghost tells = { abbreviated_row_tells };
 }
 
 /// A list of rows. A row by itself lies in the list, and only more take memory.

@@ -6,11 +6,13 @@ ghost use Rattle.idb_keys.specs.KeyRange.{bound_at};
 ghost use Rattle.index_tables.specs.Rows.{rows_of, count_of, row_meets, has_row, has_key};
 ghost use Rattle.index_tables.specs.View.{row_of, row_seen, row_set, rows_in, bound_seen};
 ghost use Rattle.index_tables.specs.Halves.{IsSplitAt};
+ghost use Rattle.index_tables.specs.Orders.{bound_in_front, bound_behind};
+ghost use Rattle.sorted_table.specs.Orders.{abbreviated_key};
 
 use crate::rows::Row;
 use clone_values::{Key, Keys};
 use key_order::compare;
-use sorted_table::{Cut, OrderedTable, Steps, find_place};
+use sorted_table::{Cut, Ordered, OrderedTable, Steps, find_place};
 use std::cmp::Ordering;
 use std::marker::Brand;
 use std::sync::ledger::{Blank, Ledger};
@@ -50,6 +52,8 @@ struct Lower<'a> {
 impl<'a> Cut<Row> for Lower<'a> {
     ghost passes = { λ bound row. row_meets (Some (bound_at (key_tree_of bound.key.now) bound.is_open)) (row_of row) };
 
+    ghost abbreviated = { λ bound. abbreviated_key bound.key.now };
+
     fn passes(&self, row: &Row) -> bool {
         match compare(self.key, &row.key) {
             Ordering::Less => true,
@@ -57,6 +61,14 @@ impl<'a> Cut<Row> for Lower<'a> {
             Ordering::Greater => false,
         }
     }
+
+    fn abbreviated(&self) -> Option<i64> {
+        self.key.abbreviated()
+    }
+
+    ghost in_front = { λ bound row told. bound_in_front bound.key.now row.key bound.is_open told };
+
+    ghost behind = { λ bound row told. bound_behind bound.key.now row.key bound.is_open told };
 }
 
 /// The place of the first row whose key meets the bound, or the number of the rows.

@@ -1,7 +1,4 @@
-pub mod LeavesLemmas
-pub mod PileLemmas
+pub mod Within
 pub mod TableLemmas
-pub mod Halving
 pub mod PutLemmas
 pub mod TakeLemmas
-pub mod SizesLemmas

@@ -4,13 +4,13 @@
 --     IsPut, put_whole, put_halved                 what both leave
 --     begun_free, begun_spare                      as the first
 --     joined_value, joined_there, value_filled, value_spare       a value
-use Rattle.std.proofs.Common.{◌≡◌, ℕ, zero, suc, ◌+◌, ◌-◌, ◌^◌, ◌<◌, ◌≤◌, ◌⊎◌, inl, inr, List, [], ◌∷◌, ◌++◌, length, take, drop, set, insert, option_map, refl, sym, ap, ◌∙◌, zero-add, add-one, arith, length-append, length-drop}
-use Rattle.std.proofs.lemmas.List.{length-set, length-take-le}
+use Rattle.std.proofs.Common.{◌≡◌, ℕ, zero, suc, ◌+◌, ◌^◌, ◌<◌, ◌≤◌, ◌⊎◌, inl, inr, List, [], ◌∷◌, ◌++◌, length, take, set, insert, option_map, refl, sym, ap, ◌∙◌, zero-add, add-one, arith, length-append}
+use Rattle.std.proofs.lemmas.List.{length-set}
 use Rattle.std.proofs.lemmas.List.Edits.{length-insert}
 use Rattle.sorted_table.specs.Tables.{with_value, value_there}
 use Rattle.sorted_table.proofs.Laws.{length_value}
-use Rattle.leaf_table.specs.Leaves.{joined, before, leaf_at, split_leaf, AreLeaves, AreLeavesBehind, spare_of}
-use Rattle.leaf_table.proofs.LeavesLemmas.{joined_put, joined_get, joined_split, excess_set, excess_split, excess_at, length_split, grown, halved, fit, most_items, spare_some}
+use Rattle.leaf_blocks.specs.Leaves.{joined, before, leaf_at, split_run, AreLeaves, AreRunsBehind, spare_of}
+use Rattle.leaf_blocks.proofs.Laws.{joined_put, joined_get, joined_split, excess_set, excess_split, excess_at, length_split, grown, halved, fit, most_items, spare_some, before_lower, before_upper, lower_size, upper_size}
 
 module _ {A : Type 0} where
   pub put_small : (ls : List (List A)) → AreLeaves ls → length ls ≤ 2 ^ 40 → length (joined ls) < 2 ^ 63
@@ -26,11 +26,11 @@ module _ {A : Type 0} where
       → spare_of ls f ≤ spare_of (set ls i (insert (leaf_at ls i) o x)) f + 1
   put_spare ls i o f x w v = spare_set ls i f (insert (leaf_at ls i) o x) w (omega (arith, length-insert (leaf_at ls i) o x v))
 
-  pub put_filled : (n : ℕ) (ls : List (List A)) (i o : ℕ) (x : A) → AreLeavesBehind n ls → o ≤ length (leaf_at ls i) → length (leaf_at ls i) < 64
-      → AreLeavesBehind n (set ls i (insert (leaf_at ls i) o x))
+  pub put_filled : (n : ℕ) (ls : List (List A)) (i o : ℕ) (x : A) → AreRunsBehind 32 n ls → o ≤ length (leaf_at ls i) → length (leaf_at ls i) < 64
+      → AreRunsBehind 32 n (set ls i (insert (leaf_at ls i) o x))
   put_filled n ls i o x a v w =
       let long : length (insert (leaf_at ls i) o x) ≡ length (leaf_at ls i) + 1 = length-insert (leaf_at ls i) o x v in
-      grown n ls i (insert (leaf_at ls i) o x) a (omega arith) (omega arith)
+      grown 32 n ls i (insert (leaf_at ls i) o x) a (omega arith) (omega arith)
 
   -- a table that has a full leaf and spare places has a free leaf
   pub split_free : (ls : List (List A)) (i f : ℕ) → i < length ls → length (leaf_at ls i) ≡ 64 → 0 < spare_of ls f → 0 < f
@@ -46,28 +46,6 @@ module _ {A : Type 0} where
   begun_spare [] (suc f) g x n e = omega arith
   begun_spare (l ∷ ls) f g x n e = cc
 
-  split_lower : (ls : List (List A)) (i : ℕ) → leaf_at (split_leaf ls i) i ≡ take 32 (leaf_at ls i)
-  split_lower [] i = refl
-  split_lower (l ∷ ls) zero = refl
-  split_lower (l ∷ ls) (suc i) = split_lower ls i
-
-  split_upper : (ls : List (List A)) (i : ℕ) → leaf_at (split_leaf ls i) (suc i) ≡ drop 32 (leaf_at ls i)
-  split_upper [] i = refl
-  split_upper (l ∷ ls) zero = refl
-  split_upper (l ∷ ls) (suc i) = split_upper ls i
-
-  before_lower : (ls : List (List A)) (i : ℕ) → before (split_leaf ls i) i ≡ before ls i
-  before_lower [] zero = refl
-  before_lower [] (suc i) = refl
-  before_lower (l ∷ ls) zero = refl
-  before_lower (l ∷ ls) (suc i) = length-append l (joined (take i (split_leaf ls i))) ∙ ap (λ n. length l + n) (before_lower ls i) ∙ sym (length-append l (joined (take i ls)))
-
-  before_upper : (ls : List (List A)) (i : ℕ) → i < length ls → length (leaf_at ls i) ≡ 64 → before (split_leaf ls i) (suc i) ≡ before ls i + 32
-  before_upper [] i w e = absurd (omega arith)
-  before_upper (l ∷ ls) zero w e = omega (arith, length-append (take 32 l) [], length-take-le 32 l (omega arith))
-  before_upper (l ∷ ls) (suc i) w e =
-      omega (arith, length-append l (joined (take (suc i) (split_leaf ls i))), before_upper ls i (omega arith) e, length-append l (joined (take i ls)))
-
 -- a place in the halves of a leaf that was split
 pub record IsHalf {A : Type 0} (ls : List (List A)) (at j p : ℕ) : Type 0 where
   pub within : j < length ls
@@ -75,36 +53,42 @@ pub record IsHalf {A : Type 0} (ls : List (List A)) (at j p : ℕ) : Type 0 wher
   pub offset : p ≤ length (leaf_at ls j)
   pub half : length (leaf_at ls j) ≡ 32
 
+-- the half of a seat, by ranks in a block
+pub half_rank : (i n l l' o p : ℕ) → ((o ≤ 32) × (l' ≡ l) × (p ≡ o)) ⊎ ((32 < o) × (l' ≡ l + 1) × (p + 32 ≡ o)) → n + l ≡ i
+    → ((o ≤ 32) × (n + l' ≡ i) × (p ≡ o)) ⊎ ((32 < o) × (n + l' ≡ i + 1) × (p + 32 ≡ o))
+half_rank i n l l' o p (inl h) e = inl (h.0, omega (arith, h.1, e), h.2)
+half_rank i n l l' o p (inr h) e = inr (h.0, omega (arith, h.1, e), h.2)
+
 module _ {A : Type 0} where
   pub half_seat : (ls : List (List A)) (i o j p : ℕ) → i < length ls → length (leaf_at ls i) ≡ 64 → o ≤ length (leaf_at ls i)
-      → ((o ≤ 32) × (j ≡ i) × (p ≡ o)) ⊎ ((32 < o) × (j ≡ i + 1) × (p + 32 ≡ o)) → IsHalf (split_leaf ls i) (before ls i + o) j p
+      → ((o ≤ 32) × (j ≡ i) × (p ≡ o)) ⊎ ((32 < o) × (j ≡ i + 1) × (p + 32 ≡ o)) → IsHalf (split_run 32 ls i) (before ls i + o) j p
   half_seat ls i o j p w full v (inl h) =
-      let low : length (leaf_at (split_leaf ls i) i) ≡ 32 = ap length (split_lower ls i) ∙ length-take-le 32 (leaf_at ls i) (omega arith) in
+      let low : length (leaf_at (split_run 32 ls i) i) ≡ 32 = lower_size 32 ls i (omega arith) in
       rw (h.1, h.2) record {
-        within = omega (arith, length_split ls i w);
-        place = omega (arith, before_lower ls i);
+        within = omega (arith, length_split 32 ls i w);
+        place = omega (arith, before_lower 32 ls i);
         offset = omega (arith, low, h.0);
         half = low;
       }
   half_seat ls i o j p w full v (inr h) =
-      let high : length (leaf_at (split_leaf ls i) (suc i)) ≡ 32 = ap length (split_upper ls i) ∙ length-drop 32 (leaf_at ls i) ∙ ap (λ n. n - 32) full in
+      let high : length (leaf_at (split_run 32 ls i) (suc i)) ≡ 32 = omega (arith, upper_size 32 ls i, full) in
       rw (h.1, add-one) record {
-        within = omega (arith, length_split ls i w);
-        place = omega (arith, before_upper ls i w full, h.2);
+        within = omega (arith, length_split 32 ls i w);
+        place = omega (arith, before_upper 32 ls i w (omega arith), h.2);
         offset = omega (arith, high, h.2);
         half = high;
       }
 
   pub half_spare : (ls : List (List A)) (i f g j p : ℕ) (x : A) → i < length ls → length (leaf_at ls i) ≡ 64 → g + 1 ≡ f
-      → j < length (split_leaf ls i) → p ≤ length (leaf_at (split_leaf ls i) j)
-      → spare_of ls f ≤ spare_of (set (split_leaf ls i) j (insert (leaf_at (split_leaf ls i) j) p x)) g + 1
+      → j < length (split_run 32 ls i) → p ≤ length (leaf_at (split_run 32 ls i) j)
+      → spare_of ls f ≤ spare_of (set (split_run 32 ls i) j (insert (leaf_at (split_run 32 ls i) j) p x)) g + 1
   half_spare ls i f g j p x w full e v u =
-      omega (arith, put_spare (split_leaf ls i) j p g x v u, spare_some ls f (omega arith), spare_some (split_leaf ls i) g (omega arith), excess_split ls i w full)
+      omega (arith, put_spare (split_run 32 ls i) j p g x v u, spare_some ls f (omega arith), spare_some (split_run 32 ls i) g (omega arith), excess_split ls i w full)
 
   pub half_filled : (ls : List (List A)) (i j p : ℕ) (x : A) → AreLeaves ls → length (leaf_at ls i) ≡ 64
-      → p ≤ length (leaf_at (split_leaf ls i) j) → length (leaf_at (split_leaf ls i) j) ≡ 32
-      → AreLeaves (set (split_leaf ls i) j (insert (leaf_at (split_leaf ls i) j) p x))
-  half_filled ls i j p x a full u h = put_filled 64 (split_leaf ls i) j p x (halved 64 ls i (omega arith) a full) u (omega arith)
+      → p ≤ length (leaf_at (split_run 32 ls i) j) → length (leaf_at (split_run 32 ls i) j) ≡ 32
+      → AreLeaves (set (split_run 32 ls i) j (insert (leaf_at (split_run 32 ls i) j) p x))
+  half_filled ls i j p x a full u h = put_filled 64 (split_run 32 ls i) j p x (halved 32 64 ls i (omega arith) (omega arith) a full) u (omega arith)
 
 -- what putting an item at a place leaves
 pub record IsPut {A : Type 0} (ls : List (List A)) (f place : ℕ) (x : A) (new : List (List A)) (g : ℕ) : Type 0 where
@@ -122,11 +106,11 @@ module _ {A : Type 0} where
   }
 
   pub put_halved : (ls mid new : List (List A)) (i o j p f g h place : ℕ) (x : A) → AreLeaves ls → i < length ls → length (leaf_at ls i) ≡ 64
-      → place ≡ before ls i + o → IsHalf (split_leaf ls i) (before ls i + o) j p → mid ≡ split_leaf ls i
+      → place ≡ before ls i + o → IsHalf (split_run 32 ls i) (before ls i + o) j p → mid ≡ split_run 32 ls i
       → new ≡ set mid j (insert (leaf_at mid j) p x) → g + 1 ≡ f → h ≡ g → IsPut ls f place x new h
   put_halved ls mid new i o j p f g h place x a w full e s m n q r = rw (n, m, r) record {
-    items = joined_put (split_leaf ls i) j p x s.within s.offset ∙ ap (λ at. insert (joined (split_leaf ls i)) at x) (sym (e ∙ s.place))
-        ∙ ap (λ es. insert es place x) (joined_split ls i);
+    items = joined_put (split_run 32 ls i) j p x s.within s.offset ∙ ap (λ at. insert (joined (split_run 32 ls i)) at x) (sym (e ∙ s.place))
+        ∙ ap (λ es. insert es place x) (joined_split 32 ls i);
     filled = half_filled ls i j p x a full s.offset s.half;
     spare = half_spare ls i f g j p x w full q s.within s.offset;
   }
@@ -155,11 +139,11 @@ module _ {K V : Type 0} where
       → value_there (joined ls) (before ls i + o) ≡ value_there (leaf_at ls i) o
   joined_there ls i o h w = ap (option_map (λ (e : K × V). e.1)) (joined_get ls i o h w)
 
-  pub value_filled : (n : ℕ) (ls : List (List (K × V))) (i o : ℕ) (v : V) → AreLeavesBehind n ls → i < length ls
-      → AreLeavesBehind n (set ls i (with_value (leaf_at ls i) o v))
+  pub value_filled : (n : ℕ) (ls : List (List (K × V))) (i o : ℕ) (v : V) → AreRunsBehind 32 n ls → i < length ls
+      → AreRunsBehind 32 n (set ls i (with_value (leaf_at ls i) o v))
   value_filled n ls i o v a w =
       let same : length (with_value (leaf_at ls i) o v) ≡ length (leaf_at ls i) = length_value (leaf_at ls i) o v in
-      grown n ls i (with_value (leaf_at ls i) o v) a (omega arith) (omega (arith, (fit n ls i a w).1))
+      grown 32 n ls i (with_value (leaf_at ls i) o v) a (omega arith) (omega (arith, (fit 32 n ls i a w).1))
 
   pub value_spare : (ls : List (List (K × V))) (i o f : ℕ) (v : V) → i < length ls
       → spare_of (set ls i (with_value (leaf_at ls i) o v)) f ≡ spare_of ls f

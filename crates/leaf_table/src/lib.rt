@@ -4,9 +4,9 @@
 // insertion takes no memory.
 #![tactic(auto)]
 
-mod leaf;
-mod pile;
-mod sizes;
+mod editing;
+mod near;
+mod searching;
 mod table;
 
 pub use table::LeafTable;

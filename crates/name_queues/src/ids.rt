@@ -1,5 +1,5 @@
 // What names a connection.
-ghost use Rattle.std.specs.Prelude.{◌≡◌};
+ghost use Rattle.std.specs.Prelude.{◌≡◌, None};
 ghost use Rattle.name_queues.specs.Ids.{by_id_order, by_id_order_total, by_id_order_same};
 
 use sorted_table::Ordered;
@@ -15,6 +15,8 @@ pub struct ConnId {
 impl Ordered for ConnId {
     ghost order = { by_id_order };
 
+    ghost abbreviated = { λ id. None };
+
     fn order(&self, other: &ConnId) -> Ordering {
         match self.client.cmp(&other.client) {
             Ordering::Equal => self.request.cmp(&other.request),
@@ -22,7 +24,13 @@ impl Ordered for ConnId {
         }
     }
 
+    fn abbreviated(&self) -> Option<i64> {
+        None
+    }
+
     ghost total = { by_id_order_total };
 
     ghost same = { by_id_order_same };
+
+    ghost tells = { λ a b told. cc };
 }

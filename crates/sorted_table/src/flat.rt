@@ -1,5 +1,5 @@
 // One run of entries.
-ghost use Rattle.std.specs.Prelude.{◌≡◌, ℕ, ◌+◌, ◌-◌, ◌*◌, ◌^◌, ◌<◌, ◌≤◌, [], List, Some, length, slice_get, remove, option_map, OnOk, IfOk, IfErr, vec_len, vec_capacity};
+ghost use Rattle.std.specs.Prelude.{◌≡◌, ℕ, ◌+◌, ◌-◌, ◌*◌, ◌^◌, ◌<◌, ◌≤◌, [], List, Some, length, take, drop, slice_get, remove, option_map, OnOk, IfOk, IfErr, vec_len, vec_capacity};
 ghost use Rattle.std.specs.FinMap.{put};
 ghost use Rattle.sorted_table.specs.Tables.{pair_seen, IsSorted, HasKeyAt, BelongsAt, value_there, with_value};
 
@@ -53,6 +53,10 @@ impl<K: Ordered, V: Drop> OrderedTable<K, V> for FlatTable<K, V> {
         }
     }
 
+    fn run(&self, place: usize) -> &[(K, V)] {
+        run_from(self.rows.as_slice(), place)
+    }
+
     fn len(&self) -> usize {
         self.rows.len()
     }
@@ -75,6 +79,14 @@ impl<K: Ordered, V: Drop> OrderedTable<K, V> for FlatTable<K, V> {
     }
 
     ghost rises = { λ t. t.sorted };
+}
+
+/// The entries from this place on.
+fn run_from<K, V>(rows: &[(K, V)], place: usize) -> &[(K, V)]
+    ensures entries { result.now ≡ take (length result.now) (drop place rows.now) }
+    ensures some { place < length rows.now → 0 < length result.now }
+{
+    &rows[place.min(rows.len())..]
 }
 
 /// Puts an entry where its key belongs.

@@ -18,8 +18,9 @@ pub(crate) fn compared<K: Ordered, L: Ledger>(key: &K, other: &K, steps: &mut St
     key.order(other)
 }
 
-/// The place of the key, or the place where it would stand; the first comparison is with the last entry.
-pub(crate) fn place_in<K: Ordered, V: Drop, L: Ledger>(
+/// The place of the key in a slice of entries, or the place where it would stand; the first comparison is with the last
+/// entry. It takes no memory, and at most one comparison more than the number of entries has binary digits.
+pub fn place_in<K: Ordered, V: Drop, L: Ledger>(
     entries: &[(K, V)],
     key: &K,
     steps: &mut Steps<L>,
@@ -71,7 +72,7 @@ fn place_before<K: Ordered, V: Drop, L: Ledger>(
 }
 
 /// Whether the key of an entry lies behind the cut, and one step more.
-fn passed<K, C: Cut<K>, L: Ledger>(cut: &C, key: &K, steps: &mut Steps<L>) -> bool
+fn passed<K: Ordered, C: Cut<K>, L: Ledger>(cut: &C, key: &K, steps: &mut Steps<L>) -> bool
     ensures value { result ≡ C.passes cut.now key.now }
     ensures counted { steps.new ≡ steps.old + 1 }
 {
@@ -79,9 +80,9 @@ fn passed<K, C: Cut<K>, L: Ledger>(cut: &C, key: &K, steps: &mut Steps<L>) -> bo
     cut.passes(key)
 }
 
-/// The place of the first entry whose key lies behind the cut, or the number of entries; the first question is about the last
-/// entry.
-pub(crate) fn first_in<K, V, C: Cut<K>, L: Ledger>(
+/// The place of the first entry of a slice whose key lies behind the cut, or the number of entries; the first question is about
+/// the last entry. It takes no memory, and at most one question more than the number of entries has binary digits.
+pub fn first_in<K: Ordered, V: Drop, C: Cut<K>, L: Ledger>(
     entries: &[(K, V)],
     cut: &C,
     steps: &mut Steps<L>,
@@ -104,7 +105,7 @@ pub(crate) fn first_in<K, V, C: Cut<K>, L: Ledger>(
 }
 
 /// The same where those from `high` on lie behind it.
-fn first_before<K, V, C: Cut<K>, L: Ledger>(
+fn first_before<K: Ordered, V: Drop, C: Cut<K>, L: Ledger>(
     entries: &[(K, V)],
     high: usize,
     cut: &C,

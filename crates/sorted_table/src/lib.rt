@@ -14,6 +14,7 @@ mod table;
 
 pub use cut::Cut;
 pub use flat::FlatTable;
+pub use halving::{first_in, place_in};
 pub use meanings::table_laws;
 pub use order::Ordered;
 pub use steps::Steps;

@@ -1,5 +1,5 @@
 // What every table promises.
-ghost use Rattle.std.specs.Prelude.{◌≡◌, ℕ, ◌+◌, ◌-◌, ◌*◌, ◌^◌, ◌<◌, ◌≤◌, List, Some, length, slice_get, remove, option_map, OnOk, IfOk, IfErr, IsOk};
+ghost use Rattle.std.specs.Prelude.{◌≡◌, ℕ, ◌+◌, ◌-◌, ◌*◌, ◌^◌, ◌<◌, ◌≤◌, List, Some, length, take, drop, slice_get, remove, option_map, OnOk, IfOk, IfErr, IsOk};
 ghost use Rattle.std.specs.FinMap.{put};
 ghost use Rattle.sorted_table.specs.Halves.{IsSplitAt, StaysPassed};
 ghost use Rattle.sorted_table.specs.Tables.{pair_seen, IsSorted, Lacks, HasKeyAt, BelongsAt, value_there, with_value};
@@ -37,6 +37,11 @@ pub trait OrderedTable<K: Ordered, V: Drop>: Drop {
     /// The entry at this place, counted from 0; `None` past the end.
     fn nth(&self, place: usize) -> Option<(&K, &V)>
         ensures { option_map pair_seen result ≡ slice_get (entries self.now) place };
+
+    /// The entries from this place on, as far as they lie side by side; none past the end.
+    fn run(&self, place: usize) -> &[(K, V)]
+        ensures entries { result.now ≡ take (length result.now) (drop place (entries self.now)) }
+        ensures some { place < length (entries self.now) → 0 < length result.now };
 
     /// How many entries there are.
     fn len(&self) -> usize

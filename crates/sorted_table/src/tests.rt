@@ -1,4 +1,4 @@
-ghost use Rattle.std.specs.Prelude.{◌≡◌, ◌+◌, ◌<◌, ◌≤◌, length};
+ghost use Rattle.std.specs.Prelude.{◌≡◌, ◌+◌, ◌<◌, ◌≤◌, length, None};
 ghost use Rattle.std.specs.Ordering.{nat_cmp};
 ghost use Rattle.std.specs.Cmp.{nat_cmp_total};
 ghost use Rattle.std.specs.FinMap.{nat_cmp-IsAntisymmetric};
@@ -18,13 +18,21 @@ use std::test::Fail;
 impl Ordered for u64 {
     ghost order = { nat_cmp };
 
+    ghost abbreviated = { λ n. None };
+
     fn order(&self, other: &u64) -> Ordering {
         self.cmp(other)
+    }
+
+    fn abbreviated(&self) -> Option<i64> {
+        None
     }
 
     ghost total = { nat_cmp_total };
 
     ghost same = { nat_cmp-IsAntisymmetric };
+
+    ghost tells = { λ a b told. cc };
 }
 
 /// Puts an entry in if its key has none; whether it did.

@@ -13,6 +13,7 @@ enum Step {
     Change(i64, i64),
     Find(i64),
     Nth(usize),
+    Runs,
     Len,
 }
 
@@ -49,6 +50,23 @@ fn change<T: OrderedTable<Key, i64>>(table: &mut T, key: i64, value: i64) -> Opt
     }
 }
 
+/// How many entries there are, and the sum of their keys, run by run; a run past the end has none.
+fn sum_of_runs<T: OrderedTable<Key, i64>>(table: &T) -> (usize, i64) {
+    let mut count: usize = 0;
+    let mut sum: i64 = 0;
+    for _ in 0..701u32 {
+        let run = table.run(count);
+        for pair in run {
+            match &pair.0 {
+                Key::Number(key) => sum = sum.wrapping_add(*key),
+                _ => {}
+            }
+        }
+        count = count.wrapping_add(run.len());
+    }
+    (count, sum)
+}
+
 /// Makes one call, and writes its answer behind those before it.
 fn make<T: OrderedTable<Key, i64>>(rt: &impl Abort, table: &mut T, step: Step, told: &mut String) {
     match step {
@@ -68,6 +86,7 @@ fn make<T: OrderedTable<Key, i64>>(rt: &impl Abort, table: &mut T, step: Step, t
             ),
             _ => write!(told, "{place}:- ").expect(rt, "memory"),
         },
+        Step::Runs => write!(told, "{:?} ", sum_of_runs(table)).expect(rt, "memory"),
         Step::Len => write!(told, "{} ", table.len()).expect(rt, "memory"),
     }
 }
@@ -112,6 +131,7 @@ fn answers<T: OrderedTable<Key, i64>>(rt: &impl Abort, alloc: Global, table: &mu
         Step::Take(351),
         Step::Take(351),
         Step::Change(351, 4),
+        Step::Runs,
         Step::Len,
     ];
     for step in steps {
@@ -122,7 +142,7 @@ fn answers<T: OrderedTable<Key, i64>>(rt: &impl Abort, alloc: Global, table: &mu
 
 /// What a plain dictionary of the same calls holds.
 const ANSWERS: &str =
-    "141 0:0=0 20:100=476 40:200=251 60:300=26 80:400=502 100:500=277 120:600=52 140:700=528 141:- Err(1) Ok(70) Err(71) Ok(140) Err(141) false true Ok(71) Some(2) Some(3) None None 141 ";
+    "141 0:0=0 20:100=476 40:200=251 60:300=26 80:400=502 100:500=277 120:600=52 140:700=528 141:- Err(1) Ok(70) Err(71) Ok(140) Err(141) false true Ok(71) Some(2) Some(3) None None (141, 49350) 141 ";
 
 #[test]
 fn leaves_answer_as_a_dictionary_does(rt: HostRuntime) {

@@ -1,4 +1,4 @@
-use Rattle.leaf_table.proofs.LeavesLemmas.{most_items, least_items}
+use Rattle.leaf_blocks.proofs.Laws.{most_items, least_items}
 use Rattle.leaf_table.proofs.table.LeafTable.leaves.Goals as goal
 
 pub returns-clause-most : goal.returns-clause-most

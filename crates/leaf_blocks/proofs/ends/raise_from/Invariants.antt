@@ -1,0 +1,11 @@
+use Rattle.std.proofs.Common.{◌≡◌, ℕ, ◌+◌, ◌<◌, ◌≤◌, length, get_or, vec_capacity}
+use Rattle.leaf_blocks.proofs.ends.raise_from.Given as goal
+
+abbrev pub invariant-loop-i : goal.invariant-loop-i
+invariant-loop-i l = record {
+  len : length l.ends.items ≡ length l.initial.ends.items;
+  capacity : vec_capacity l.ends ≡ vec_capacity l.initial.ends;
+  below : (g : ℕ) → g < l.fn.from → get_or l.ends.items g 0 ≡ get_or l.initial.ends.items g 0;
+  done : (g : ℕ) → l.fn.from ≤ g → g < l.i → get_or l.ends.items g 0 ≡ get_or l.initial.ends.items g 0 + l.fn.n;
+  ahead : (g : ℕ) → l.i ≤ g → get_or l.ends.items g 0 ≡ get_or l.initial.ends.items g 0;
+}

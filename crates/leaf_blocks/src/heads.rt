@@ -1,0 +1,59 @@
+// Numbers in place of the first keys of leaves or blocks, which tell where a key may be. Nothing is proved of what they are:
+// whoever asks looks at the keys themselves.
+
+/// Puts a number in, where there is room.
+pub fn put_head(heads: &mut Vec<i64>, at: usize, head: i64) {
+    if at <= heads.len() && heads.len() < heads.capacity() {
+        match heads.insert(at, head) {
+            Ok(()) => {}
+            Err(_) => {}
+        }
+    }
+}
+
+/// Changes a number.
+pub fn set_head(heads: &mut Vec<i64>, at: usize, head: i64) {
+    if at < heads.len() {
+        heads[at] = head;
+    }
+}
+
+/// Takes a number out.
+pub fn cut_head(heads: &mut Vec<i64>, at: usize) {
+    if at < heads.len() {
+        let _ = heads.remove(at);
+    }
+}
+
+/// The number there, or the least.
+pub fn head_at(heads: &[i64], at: usize) -> i64 {
+    if at < heads.len() {
+        heads[at]
+    } else {
+        i64::MIN
+    }
+}
+
+/// The last that is not greater than this number, where they rise; the first where all are.
+pub fn last_up_to(heads: &[i64], number: i64) -> usize {
+    let mut low = 0;
+    let mut high = heads.len();
+    while low < high {
+        let middle = low + (high - low) / 2;
+        if heads[middle] <= number {
+            low = middle + 1;
+        } else {
+            high = middle;
+        }
+    }
+    low.saturating_sub(1)
+}
+
+/// The last that is less than this number, where they rise; the first where none is.
+pub fn last_below(heads: &[i64], number: i64) -> usize {
+    if number == i64::MIN {
+        0
+    } else {
+        last_up_to(heads, number - 1)
+    }
+}

@@ -1,0 +1,3 @@
+pub mod ShelfLemmas
+pub mod PileLemmas
+pub mod Joining
