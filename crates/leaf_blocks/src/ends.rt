@@ -194,6 +194,17 @@ fn raise_from(ends: &mut Vec<usize>, from: usize, n: usize)
     ensures raised { (i : ℕ) → from ≤ i → i < length ends.old.items
         → slice_index ends.new.items i ≡ slice_index ends.old.items i + n }
 {
+    raise_in(ends.as_mut_slice(), from, n);
+}
+
+/// The same in a slice.
+fn raise_in(ends: &mut [usize], from: usize, n: usize)
+    requires { (i : ℕ) → i < length ends.old → slice_index ends.old i + n < 2 ^ 64 }
+    ensures len { length ends.new ≡ length ends.old }
+    ensures below { (i : ℕ) → i < from → slice_index ends.new i ≡ slice_index ends.old i }
+    ensures raised { (i : ℕ) → from ≤ i → i < length ends.old
+        → slice_index ends.new i ≡ slice_index ends.old i + n }
+{
     for i in from..ends.len() {
         ends[i] += n;
     }
@@ -207,6 +218,17 @@ fn lower_from(ends: &mut Vec<usize>, from: usize, n: usize)
     ensures below { (i : ℕ) → i < from → slice_index ends.new.items i ≡ slice_index ends.old.items i }
     ensures lowered { (i : ℕ) → from ≤ i → i < length ends.old.items
         → slice_index ends.new.items i + n ≡ slice_index ends.old.items i }
+{
+    lower_in(ends.as_mut_slice(), from, n);
+}
+
+/// The same in a slice.
+fn lower_in(ends: &mut [usize], from: usize, n: usize)
+    requires { (i : ℕ) → from ≤ i → i < length ends.old → n ≤ slice_index ends.old i }
+    ensures len { length ends.new ≡ length ends.old }
+    ensures below { (i : ℕ) → i < from → slice_index ends.new i ≡ slice_index ends.old i }
+    ensures lowered { (i : ℕ) → from ≤ i → i < length ends.old
+        → slice_index ends.new i + n ≡ slice_index ends.old i }
 {
     for i in from..ends.len() {
         ends[i] -= n;

@@ -34,11 +34,15 @@ pub fn head_at(heads: &[i64], at: usize) -> i64 {
     }
 }
 
-/// The last that is not greater than this number, where they rise; the first where all are.
+/// How many numbers are looked at one by one.
+const FEW: usize = 16;
+
+/// The last that is not greater than this number, where they rise; the first where all are. It halves down to a few, and counts
+/// these.
 pub fn last_up_to(heads: &[i64], number: i64) -> usize {
     let mut low = 0;
     let mut high = heads.len();
-    while low < high {
+    while high - low > FEW {
         let middle = low + (high - low) / 2;
         if heads[middle] <= number {
             low = middle + 1;
@@ -46,7 +50,13 @@ pub fn last_up_to(heads: &[i64], number: i64) -> usize {
             high = middle;
         }
     }
-    low.saturating_sub(1)
+    let mut count = low;
+    for at in low..high {
+        if heads[at] <= number {
+            count = count.wrapping_add(1);
+        }
+    }
+    count.saturating_sub(1)
 }
 
 /// The last that is less than this number, where they rise; the first where none is.

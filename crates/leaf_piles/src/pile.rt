@@ -9,17 +9,20 @@ use idb_base::NoMemory;
 use leaf_blocks::{HALF, HALF_WIDTH, Leaf, WIDTH};
 use std::alloc::Global;
 use std::marker::Model;
+use std::sync::atomic::{AtomicUsize, Ordering};
 
 /// How many leaves there may be.
 const MOST_LEAVES: usize = 1 << 40;
 
-/// Leaves in use, in order, and free ones.
+/// Leaves in use, in order, and free ones. The leaf that was sought last is kept as a number that promises nothing: whoever reads it
+/// looks at the leaf.
 #[derive(Drop)]
 pub struct Pile<T> {
     shelf: Shelf<T>,
     free: Vec<Leaf<T>>,
     leaves: usize,
     excess: usize,
+    sought: AtomicUsize,
     alloc: Global,
 }
 
@@ -45,6 +48,7 @@ impl<T: Drop> Pile<T> {
             free: Vec::new(alloc),
             leaves: 0,
             excess: 0,
+            sought: AtomicUsize::new(0),
             alloc,
         }
     }
@@ -92,7 +96,18 @@ impl<T: Drop> Pile<T> {
             < length (leaf_at (joined self.now.blocks) (rank self.now.blocks result.block result.leaf)) }
         ensures few { length (joined self.now.blocks) ≤ 2 ^ 40 }
     {
-        self.shelf.seat(place)
+        let sought = self.sought.load(Ordering::SeqCst);
+        match self
+            .shelf
+            .seat_within(sought / WIDTH, sought % WIDTH, place)
+        {
+            Some(seat) => seat,
+            None => {
+                let seat = self.shelf.seat(place);
+                keep_sought(&self.sought, seat);
+                seat
+            }
+        }
     }
 
     /// How many items stand before this leaf.
@@ -315,7 +330,9 @@ impl<T: Drop> Pile<T> {
         ensures first { IfSome result (λ g. IsSpot self.now.blocks g.first.block g.first.leaf) }
         ensures last { IfSome result (λ g. IsSpot self.now.blocks g.last.block g.last.leaf) }
     {
-        self.shelf.guess(number)
+        let guess = self.shelf.guess(number)?;
+        keep_sought(&self.sought, guess.first);
+        Some(guess)
     }
 }
 
@@ -334,6 +351,14 @@ impl<K: Drop, V: Drop> Pile<(K, V)> {
         ensures free { self.new.free ≡ self.old.free }
     {
         self.shelf.replace(seat, value)
+    }
+}
+
+/// Keeps the leaf of this seat as the one that was sought last.
+fn keep_sought(sought: &AtomicUsize, seat: Seat) {
+    let number = seat.block.wrapping_mul(WIDTH).wrapping_add(seat.leaf);
+    if sought.load(Ordering::SeqCst) != number {
+        sought.store(number, Ordering::SeqCst);
     }
 }
 

@@ -127,6 +127,30 @@ impl<T: Drop> Shelf<T> {
         }
     }
 
+    /// The seat of a place in this leaf, if there is such a leaf and the place is one of its items.
+    pub(crate) fn seat_within(&self, block: usize, leaf: usize, place: usize) -> Option<Seat>
+        ensures spot { IfSome result (λ seat. IsSpot self.now.blocks seat.block seat.leaf) }
+        ensures place { IfSome result (λ seat. place ≡ before (joined self.now.blocks)
+            (rank self.now.blocks seat.block seat.leaf) + seat.offset) }
+        ensures inner { IfSome result (λ seat. seat.offset
+            < length (leaf_at (joined self.now.blocks) (rank self.now.blocks seat.block seat.leaf))) }
+    {
+        if block >= self.blocks.len() {
+            return None;
+        }
+        let seat = self.seat_there(block, leaf)?;
+        let offset = place.checked_sub(self.start(seat))?;
+        if offset < self.size(seat) {
+            Some(Seat {
+                block: seat.block,
+                leaf: seat.leaf,
+                offset,
+            })
+        } else {
+            None
+        }
+    }
+
     /// How many items stand before this leaf.
     pub fn start(&self, seat: Seat) -> usize
         requires { IsSpot self.now.blocks seat.block seat.leaf }

@@ -1,5 +1,5 @@
 use Rattle.leaf_blocks.proofs.Laws.{fit}
 use Rattle.leaf_piles.proofs.pile.Pile.seat.Goals as goal
 
-pub seat-requires-clause-filled : goal.seat-requires-clause-filled
-seat-requires-clause-filled g c = λ b w. (fit 64 128 c.self.inside.shelf.blocks b c.self.invariant.filled w).0
+pub seat-seat-requires-clause-filled : goal.seat-seat-requires-clause-filled
+seat-seat-requires-clause-filled g c = λ b w. (fit 64 128 c.self.inside.shelf.blocks b c.self.invariant.filled w).0
