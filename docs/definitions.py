@@ -51,7 +51,7 @@ def modules(crate):
 
 # Words whose definition has no comment of its own, where the comment before it is of another.
 OWN = {
-    ("clone_values", "is_byte"): "a number below 256",
+    ("value_trees", "is_byte"): "a number below 256",
     ("record_bytes", "records_in_batch"): "the records, where the whole bytes are a batch",
     ("scope_desk", "is_numbered"): "the transaction has this number",
     ("name_queues", "is_change"): "it is a versionchange event",
@@ -61,9 +61,9 @@ OWN = {
     ("name_queues", "has_conns"): "there is a connection",
     ("name_queues", "is_box"): "the box is this client's",
     ("name_queues", "with_event"): "the box with one event more",
-    ("idb_desk", "is_created_stage"): "it was only created",
-    ("idb_desk", "is_committed"): "it committed",
-    ("idb_desk", "created_more"): "it created one more",
+    ("desk_steps", "is_created_stage"): "it was only created",
+    ("desk_steps", "is_committed"): "it committed",
+    ("desk_steps", "created_more"): "it created one more",
     ("item_changes", "new_index"): "the definition of an index",
     ("request_lists", "is_read_only_mode"): "the mode is that one",
     ("request_lists", "is_upgrade_mode"): "the mode is that one",

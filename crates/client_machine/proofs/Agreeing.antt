@@ -11,7 +11,7 @@ use Rattle.std.proofs.lemmas.List.{append_assoc, append-nil, length-append, take
 use Rattle.std.proofs.lemmas.List.Elements.{filter-append}
 use Rattle.idb_keys.specs.declared.names.ErrorName.{ErrorName}
 use Rattle.idb_schema.specs.Schemas.{SchemaData}
-use Rattle.idb_desk.specs.declared.steps.DeskStep.{DeskStep}
+use Rattle.desk_steps.specs.declared.steps.DeskStep.{DeskStep}
 use Rattle.idb_desk.specs.Desks.{DeskState}
 use Rattle.idb_desk.specs.Refusals.{is_allowed, refusal_of_step}
 use Rattle.idb_desk.specs.Steps.{DeskRun, after, after_all, new_desk, desk_run, with_step}

@@ -12,7 +12,7 @@ use Rattle.idb_keys.specs.declared.names.ErrorName.{ErrorName}
 use Rattle.idb_keys.specs.declared.names.ErrorName.TheVariants.{QuotaExceededError}
 use Rattle.idb_schema.specs.Schemas.{SchemaData}
 use Rattle.name_queues.specs.declared.events.ClientEvent.{ClientEvent}
-use Rattle.idb_desk.specs.declared.steps.DeskStep.{DeskStep}
+use Rattle.desk_steps.specs.declared.steps.DeskStep.{DeskStep}
 use Rattle.report_lines.specs.declared.lines.Line.{Line}
 use Rattle.report_lines.specs.declared.lines.Line.TheVariants as line
 use Rattle.script_runs.specs.declared.notes.Note.{Note}

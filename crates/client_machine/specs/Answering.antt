@@ -13,8 +13,8 @@ use Rattle.idb_schema.specs.Schemas.{SchemaData}
 use Rattle.name_queues.specs.declared.events.ClientEvent.{ClientEvent}
 use Rattle.name_queues.specs.declared.events.ClientEvent.TheVariants as event
 use Rattle.connection_queues.specs.Machine.{schema_of}
-use Rattle.idb_desk.specs.declared.steps.DeskStep.{DeskStep}
-use Rattle.idb_desk.specs.declared.steps.DeskStep.TheVariants as step
+use Rattle.desk_steps.specs.declared.steps.DeskStep.{DeskStep}
+use Rattle.desk_steps.specs.declared.steps.DeskStep.TheVariants as step
 use Rattle.idb_desk.specs.Desks.{DeskState}
 use Rattle.idb_desk.specs.Refusals.{is_allowed, refusal_of_step}
 use Rattle.idb_desk.specs.Steps.{DeskRun, after, answer_of, event_for, new_desk, desk_run, with_step}

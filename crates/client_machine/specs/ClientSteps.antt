@@ -17,7 +17,7 @@ use Rattle.name_queues.specs.declared.ids.ConnId.{ConnId}
 use Rattle.name_queues.specs.declared.events.ClientEvent.{ClientEvent}
 use Rattle.name_queues.specs.declared.events.ClientEvent.TheVariants as event
 use Rattle.name_queues.specs.Mails.{conn_of}
-use Rattle.idb_desk.specs.declared.steps.DeskStep.TheVariants as step
+use Rattle.desk_steps.specs.declared.steps.DeskStep.TheVariants as step
 use Rattle.request_lists.specs.declared.entries.Phase.{Phase}
 use Rattle.request_lists.specs.declared.entries.Phase.TheVariants as phase
 use Rattle.request_lists.specs.Fronts.{Front, new_front}

@@ -15,8 +15,8 @@ use Rattle.idb_schema.specs.Schemas.{SchemaData}
 use Rattle.name_queues.specs.declared.ids.ConnId.{ConnId}
 use Rattle.name_queues.specs.declared.asks.Wants.{Wants}
 use Rattle.name_queues.specs.declared.asks.Wants.TheVariants as wants
-use Rattle.idb_desk.specs.declared.steps.DeskStep.{DeskStep}
-use Rattle.idb_desk.specs.declared.steps.DeskStep.TheVariants as step
+use Rattle.desk_steps.specs.declared.steps.DeskStep.{DeskStep}
+use Rattle.desk_steps.specs.declared.steps.DeskStep.TheVariants as step
 use Rattle.item_changes.specs.Items.{Name, is_same_name}
 use Rattle.request_lists.specs.Fronts.{Front, new_front}
 use Rattle.report_lines.specs.declared.lines.Line.TheVariants as line

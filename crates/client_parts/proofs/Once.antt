@@ -1,13 +1,13 @@
 -- Names, each at its first place.
 --     OnceSoFar             what is left completes the whole
---     once_begins, once_same, once_new, once_ends
+--     once_same, once_new
 use Rattle.std.proofs.Common.{◌≡◌, ℕ, ◌+◌, ◌≤◌, Bool, true, false, List, [], ◌∷◌, ◌++◌, length, drop, if◌then◌else◌, refl, sym, ap, ◌∙◌, subst, append_assoc, arith, length-append}
 use Rattle.std.specs.Prelude.{◌||◌}
 use Rattle.std.specs.List.{list_any}
 use Rattle.std.proofs.lemmas.List.{append-nil, drop_all}
 use Rattle.idb_base.specs.Lists.{StandsAt}
 use Rattle.item_changes.specs.Items.{Name, is_same_name}
-use Rattle.client_machine.specs.TaskRuns.{names_once}
+use Rattle.client_seats.specs.TaskRuns.{names_once}
 
 -- the names that were seen tell the same as those that were kept
 pub record OnceSoFar (names : List Name) (place : ℕ) (once : List Name) : Type 0 where
@@ -15,9 +15,6 @@ pub record OnceSoFar (names : List Name) (place : ℕ) (once : List Name) : Type
   pub same : (m : Name) → list_any (is_same_name m) seen ≡ list_any (is_same_name m) once
   pub whole : once ++ names_once seen (drop place names) ≡ names_once [] names
   pub few : length once ≤ place
-
-pub once_begins : (names : List Name) → OnceSoFar names 0 []
-once_begins names = record { seen = []; same = λ m. refl; whole = refl; few = omega arith }
 
 pub once_same : (names : List Name) (place : ℕ) (once after : List Name) (n : Name) → OnceSoFar names place once → StandsAt names place n → list_any (is_same_name n) once ≡ true → after ≡ once → OnceSoFar names (place + 1) after
 once_same names place once after n f here is stays =
@@ -49,6 +46,3 @@ once_new names place once after n copy f here is same grows =
       whole = append_assoc once (n ∷ []) (names_once (n ∷ f.seen) (drop (place + 1) names)) ∙ ap (λ ns. once ++ ns) (sym left ∙ ap (names_once f.seen) (sym here)) ∙ f.whole;
       few = (let few = f.few in let long = length-append once (n ∷ []) in omega arith);
     })
-
-pub once_ends : (names : List Name) (place : ℕ) (once : List Name) → OnceSoFar names place once → length names ≤ place → once ≡ names_once [] names
-once_ends names place once f l = sym (append-nil once) ∙ ap (λ ns. once ++ ns) (sym (ap (names_once f.seen) (drop_all place names l))) ∙ f.whole

@@ -9,8 +9,8 @@ use borrow.Author.Tests.{ltb-true, ltb-false}
 use borrow.Author.Tests.{eq-eqb}
 use Rattle.std.proofs.lemmas.Option.{slice_get-get_or}
 use Rattle.std.proofs.lemmas.List.Folds.{find_at}
-use Rattle.client_machine.specs.ClientStates.{ClientTx, OfUpgrade, is_tx, started_if}
-use Rattle.client_machine.specs.FinishEntries.{Deletion}
+use Rattle.client_seats.specs.ClientStates.{ClientTx, OfUpgrade, is_tx, started_if}
+use Rattle.client_seats.specs.FinishEntries.{Deletion}
 use Rattle.scope_desk.specs.Rising.{IsRisingFrom}
 use Rattle.client_parts.proofs.Rising.{at_least}
 

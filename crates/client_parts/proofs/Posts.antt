@@ -1,14 +1,14 @@
 -- Posts that become tasks.
 --     with_one, with_none   one note more;  none is left
---     note_alike, alike_again, alike_itself         a client whose notes are taken sits in the same place
+--     alike_itself          a client whose notes are taken sits in the same place
 use Rattle.std.proofs.Common.{◌≡◌, ℕ, ◌+◌, ◌<◌, ◌≤◌, true, false, List, [], ◌∷◌, ◌++◌, length, drop, drop-cons, add-one, get_or, if◌then◌else◌, refl, sym, ap, ◌∙◌, subst}
 use Rattle.std.specs.Prelude.{nat_lt}
 use Rattle.std.proofs.lemmas.List.{drop_all}
 use Rattle.script_runs.specs.declared.notes.Note.{Note}
 use Rattle.script_runs.specs.declared.notes.Note.TheVariants as note
 use Rattle.script_runs.specs.declared.notes.Task.{Task}
-use Rattle.client_machine.specs.ClientStates.{ClientState, with_task, with_notes}
-use Rattle.client_machine.specs.declared.limits.TheConstants.{GREATEST_POST_COUNT}
+use Rattle.client_seats.specs.ClientStates.{ClientState, with_task, with_notes}
+use Rattle.client_seats.specs.TheConstants.{GREATEST_POST_COUNT}
 use Rattle.client_seats.specs.Seating.{SitsAlike}
 use Rattle.client_parts.specs.Posting.{with_note}
 
@@ -29,13 +29,3 @@ alike_itself c = record { number = refl; opens = refl; txs = refl }
 
 task_alike : (c : ClientState) (task : Task) → SitsAlike c (with_task c task)
 task_alike c task = elim (nat_lt c.posts GREATEST_POST_COUNT) as (λ b. SitsAlike c (if b then record c { tasks = c.tasks ++ task ∷ []; posts = c.posts + 1 } else c)) [ true ↦ record { number = refl; opens = refl; txs = refl } | false ↦ alike_itself c ]
-
-pub note_alike : (c : ClientState) (n : Note) → SitsAlike c (with_note c n)
-note_alike c (note.Line l) = alike_itself c
-note_alike c (note.Posted task) = task_alike c task
-
-pub alike_again : (c d e : ClientState) → SitsAlike c d → SitsAlike d e → SitsAlike c e
-alike_again c d e a b = record { number = b.number ∙ a.number; opens = b.opens ∙ a.opens; txs = b.txs ∙ a.txs }
-
-pub alike_same : (c d e : ClientState) → SitsAlike c d → e ≡ d → SitsAlike c e
-alike_same c d e a k = subst (λ x. SitsAlike c x) (sym k) a

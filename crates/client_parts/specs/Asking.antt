@@ -5,7 +5,7 @@ use Rattle.name_queues.specs.declared.asks.Wants.TheVariants as want
 use Rattle.script_statements.specs.declared.statement.Stmt.{Stmt}
 use Rattle.script_statements.specs.declared.statement.Stmt.TheVariants as stmt
 use Rattle.script_runs.specs.declared.environments.Env.{Env}
-use Rattle.client_machine.specs.TaskRuns.{version_wanted}
+use Rattle.client_seats.specs.TaskRuns.{version_wanted}
 use Rattle.client_parts.specs.declared.asking.Asking.{Asking}
 
 abbrev pub asking_in : Env → Stmt → Option Asking

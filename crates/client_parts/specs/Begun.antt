@@ -7,7 +7,7 @@ use Rattle.idb_keys.specs.declared.names.Durability.{Durability}
 use Rattle.idb_schema.specs.Schemas.{SchemaData}
 use Rattle.item_changes.specs.Items.{Name}
 use Rattle.request_lists.specs.Fronts.{Front, front_map}
-use Rattle.client_machine.specs.FinishEntries.{ScriptedBody}
+use Rattle.client_seats.specs.FinishEntries.{ScriptedBody}
 use Rattle.script_handlers.specs.declared.handlers.ScriptHandler.{ScriptHandler}
 use Rattle.script_handlers.specs.Handling.{Script}
 use Rattle.script_handlers.specs.Seeing.{script_seen}

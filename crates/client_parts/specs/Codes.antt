@@ -4,10 +4,10 @@ use Rattle.std.specs.Coded.{Coded, codes}
 use Rattle.clone_values.specs.KeyTree.{key_code}
 use Rattle.clone_values.specs.Tree.{tree_code}
 use Rattle.idb_keys.specs.KeyRange.{range_code}
-use Rattle.client_machine.specs.FinishEntries.{ScriptedBody, TxBody}
+use Rattle.client_seats.specs.FinishEntries.{ScriptedBody, TxBody}
 use Rattle.script_handlers.specs.Codes.{script_code}
 use Rattle.script_handlers.specs.Handling.{Script}
-use Rattle.client_machine.specs.ClientStates.{OpenAsked, ClientTxKind, ClientTx, ClientState}
+use Rattle.client_seats.specs.ClientStates.{OpenAsked, ClientTxKind, ClientTx, ClientState}
 use Rattle.client_parts.specs.Begun.{BegunState}
 
 scripted_code : Coded (ScriptedBody Script)

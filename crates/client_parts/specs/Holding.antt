@@ -3,9 +3,9 @@
 --     parts_seen            what a begun transaction of these parts shows
 --     HoldsBody             it holds its body until it starts
 use Rattle.std.specs.Prelude.{◌≡◌, Bool, true, false, Option, Some, None, option_map}
-use Rattle.client_machine.specs.FinishEntries.{TxBody, Scripted, Deletion}
+use Rattle.client_seats.specs.FinishEntries.{TxBody, Scripted, Deletion}
 use Rattle.script_handlers.specs.Handling.{Script}
-use Rattle.client_machine.specs.ClientStates.{ClientTxKind, OwnTx, OfUpgrade, OfDeletion, ClientTx}
+use Rattle.client_seats.specs.ClientStates.{ClientTxKind, OwnTx, OfUpgrade, OfDeletion, ClientTx}
 use Rattle.client_parts.specs.Begun.{BegunState, scripted_body}
 use Rattle.client_parts.specs.declared.begun.BegunBody.{BegunBody}
 use Rattle.client_parts.specs.declared.begun.BegunBody.TheVariants as begun

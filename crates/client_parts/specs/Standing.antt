@@ -3,10 +3,10 @@
 --     started_of, waits_of  it has started;  it waits for its start
 --     begins_of             what it begins with, until it starts
 use Rattle.std.specs.Prelude.{Bool, false, not, ◌&&◌, Option, Some, None, if◌then◌else◌}
-use Rattle.client_machine.specs.FinishEntries.{TxBody}
+use Rattle.client_seats.specs.FinishEntries.{TxBody}
 use Rattle.script_handlers.specs.Handling.{Script}
-use Rattle.client_machine.specs.ClientStates.{ClientTx}
-use Rattle.client_machine.specs.ClientSteps.{may_begin}
+use Rattle.client_seats.specs.ClientStates.{ClientTx}
+use Rattle.client_seats.specs.ClientSteps.{may_begin}
 
 abbrev pub may_start_of : Option ClientTx → Bool
 may_start_of None = false

@@ -2,8 +2,8 @@
 ghost use Rattle.std.specs.Prelude.{◌≡◌};
 ghost use Rattle.request_lists.specs.Fronts.{new_front};
 ghost use Rattle.request_lists.specs.Placing.{Becomes};
-ghost use Rattle.client_machine.specs.FinishEntries.{Scripted};
-ghost use Rattle.client_machine.specs.ClientSteps.{may_begin};
+ghost use Rattle.client_seats.specs.FinishEntries.{Scripted};
+ghost use Rattle.client_seats.specs.ClientSteps.{may_begin};
 ghost use Rattle.client_parts.specs.Holding.{parts_seen};
 
 use clone_values::{Text, Texts};

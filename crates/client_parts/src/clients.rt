@@ -1,6 +1,6 @@
 // A client of a script.
 ghost use Rattle.std.specs.Prelude.{◌≡◌, IfOk};
-ghost use Rattle.client_machine.specs.ClientStates.{fresh_client};
+ghost use Rattle.client_seats.specs.ClientStates.{fresh_client};
 ghost use Rattle.idb_desk.specs.Refusals.{has_some};
 ghost use Rattle.client_parts.specs.Clients.{client_seen};
 
@@ -30,7 +30,7 @@ pub struct ScriptClient {
 }
 
 impl Model for ScriptClient {
-    ghost use Rattle.client_machine.specs.ClientStates.{ClientState};
+    ghost use Rattle.client_seats.specs.ClientStates.{ClientState};
     ghost use Rattle.client_parts.specs.Codes.{client_code};
 
     ghost Value = { ClientState };

@@ -1,6 +1,6 @@
 // The end of a transaction: its line, the block for it, and that block's environment.
 ghost use Rattle.std.specs.Prelude.{◌≡◌, IfOk};
-ghost use Rattle.client_machine.specs.ClientSteps.{end_line, end_block, end_env};
+ghost use Rattle.client_seats.specs.ClientSteps.{end_line, end_block, end_env};
 
 use clone_values::{Text, Value};
 use idb_base::NoMemory;

@@ -1,6 +1,6 @@
 // Events of opens and deletes: their lines, the blocks for them, and the environments of these.
 ghost use Rattle.std.specs.Prelude.{◌≡◌, IfOk, OnOk};
-ghost use Rattle.client_machine.specs.ClientSteps.{event_line, event_block, event_env, with_result, gives, given_by_event};
+ghost use Rattle.client_seats.specs.ClientSteps.{event_line, event_block, event_env, with_result, gives, given_by_event};
 
 use crate::kept_opens::KeptOpen;
 use clone_values::{Text, Value};

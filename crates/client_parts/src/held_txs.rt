@@ -1,6 +1,6 @@
 // The transactions of a client.
 ghost use Rattle.std.specs.Prelude.{◌≡◌, true, false, Option, Some, None, if◌then◌else◌};
-ghost use Rattle.client_machine.specs.ClientStates.{ClientTx};
+ghost use Rattle.client_seats.specs.ClientStates.{ClientTx};
 ghost use Rattle.client_parts.specs.Holding.{kind_seen, body_seen, begun_seen, started_tx};
 ghost use Rattle.client_parts.specs.Standing.{may_start_of};
 
@@ -34,7 +34,7 @@ pub struct HeldTx {
 }
 
 impl Model for HeldTx {
-    ghost use Rattle.client_machine.specs.ClientStates.{ClientTx};
+    ghost use Rattle.client_seats.specs.ClientStates.{ClientTx};
     ghost use Rattle.client_parts.specs.Codes.{tx_code};
 
     ghost Value = { ClientTx };

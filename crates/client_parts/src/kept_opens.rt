@@ -1,6 +1,6 @@
 // The opens and deletes of a client.
 ghost use Rattle.std.specs.Prelude.{◌≡◌, true, IfOk};
-ghost use Rattle.client_machine.specs.ClientStates.{OpenAsked};
+ghost use Rattle.client_seats.specs.ClientStates.{OpenAsked};
 
 use clone_values::Text;
 use idb_base::NoMemory;
@@ -24,7 +24,7 @@ pub struct KeptOpen {
 }
 
 impl Model for KeptOpen {
-    ghost use Rattle.client_machine.specs.ClientStates.{OpenAsked};
+    ghost use Rattle.client_seats.specs.ClientStates.{OpenAsked};
     ghost use Rattle.client_parts.specs.Codes.{open_code};
 
     ghost Value = { OpenAsked };

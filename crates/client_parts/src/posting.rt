@@ -1,12 +1,12 @@
 // Posts become tasks.
 ghost use Rattle.std.specs.Prelude.{◌≡◌, ◌≤◌, drop, length, OnOk, OnErr};
-ghost use Rattle.client_machine.specs.ClientStates.{with_task, with_notes};
+ghost use Rattle.client_seats.specs.ClientStates.{with_task, with_notes};
 ghost use Rattle.client_seats.specs.Seating.{SitsAlike};
 ghost use Rattle.client_parts.specs.Posting.{with_note};
 ghost use Rattle.client_parts.specs.Clients.{client_seen};
 
 use crate::clients::ClientParts;
-use client_machine::GREATEST_POST_COUNT;
+use client_seats::GREATEST_POST_COUNT;
 use idb_base::NoMemory;
 use script_runs::{Note, Notes, Task};
 

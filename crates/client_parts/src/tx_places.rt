@@ -3,7 +3,7 @@ ghost use Rattle.std.specs.Prelude.{◌≡◌, not, map, filter, position, Some,
 ghost use Rattle.std.specs.List.{find};
 ghost use Rattle.std.specs.Option.{option_copied};
 ghost use Rattle.scope_desk.specs.Rising.{IsRisingFrom};
-ghost use Rattle.client_machine.specs.ClientStates.{is_tx, started_if};
+ghost use Rattle.client_seats.specs.ClientStates.{is_tx, started_if};
 ghost use Rattle.client_parts.specs.Holding.{begun_seen};
 ghost use Rattle.client_parts.specs.Standing.{may_start_of, started_of, waits_of, begins_of};
 

@@ -3,7 +3,7 @@ ghost use Rattle.std.specs.Prelude.{◌≡◌, ◌<◌, [], IfOk};
 ghost use Rattle.std.specs.List.{list_any};
 ghost use Rattle.clone_values.specs.View.{tree_of};
 ghost use Rattle.item_changes.specs.Items.{is_same_name};
-ghost use Rattle.client_machine.specs.TaskRuns.{version_in, version_wanted, names_once, conn_named, has_thrown};
+ghost use Rattle.client_seats.specs.TaskRuns.{version_in, version_wanted, names_once, conn_named, has_thrown};
 
 use clone_values::{Text, Texts, Value};
 use idb_base::NoMemory;

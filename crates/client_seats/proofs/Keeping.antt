@@ -12,14 +12,14 @@ use Rattle.name_queues.specs.declared.ids.ConnId.{ConnId}
 use Rattle.name_queues.specs.declared.asks.Wants.{Wants}
 use Rattle.name_queues.specs.declared.events.ClientEvent.{ClientEvent}
 use Rattle.name_queues.specs.declared.events.ClientEvent.TheVariants as event
-use Rattle.idb_desk.specs.declared.stands.DeskRequest.{DeskRequest}
-use Rattle.idb_desk.specs.declared.stands.DrawnTx.{DrawnTx}
-use Rattle.idb_desk.specs.declared.stands.Stand.{Stand}
-use Rattle.idb_desk.specs.declared.stands.Stand.TheVariants as stand
-use Rattle.idb_desk.specs.declared.stands.TxKind.{TxKind}
-use Rattle.idb_desk.specs.declared.stands.TxKind.TheVariants as kind
-use Rattle.idb_desk.specs.declared.steps.DeskStep.{DeskStep}
-use Rattle.idb_desk.specs.declared.steps.DeskStep.TheVariants as step
+use Rattle.desk_steps.specs.declared.stands.DeskRequest.{DeskRequest}
+use Rattle.desk_steps.specs.declared.stands.DrawnTx.{DrawnTx}
+use Rattle.desk_steps.specs.declared.stands.Stand.{Stand}
+use Rattle.desk_steps.specs.declared.stands.Stand.TheVariants as stand
+use Rattle.desk_steps.specs.declared.stands.TxKind.{TxKind}
+use Rattle.desk_steps.specs.declared.stands.TxKind.TheVariants as kind
+use Rattle.desk_steps.specs.declared.steps.DeskStep.{DeskStep}
+use Rattle.desk_steps.specs.declared.steps.DeskStep.TheVariants as step
 use Rattle.connection_queues.specs.Machine.{schema_of, unhandled}
 use Rattle.idb_desk.specs.Desks.{DeskState, DeskBoard, ClientStand, is_client, new_client, or_new_client, asks_of, changes_in, with_desk_client, at_desk_client, request_in, stand_of, stands_where, with_stand, stood, name_asked_by, drawn_at}
 use Rattle.idb_desk.specs.Refusals.{is_committed, is_upgrading}

@@ -17,12 +17,12 @@ use Rattle.name_queues.specs.declared.events.ClientEvent.{ClientEvent}
 use Rattle.name_queues.specs.declared.events.ClientEvent.TheVariants as event
 use Rattle.connection_queues.specs.Machine.{schema_of}
 use Rattle.scope_desk.specs.Rising.{IsRisingFrom, AreAllBelow}
-use Rattle.idb_desk.specs.declared.stands.DrawnTx.{DrawnTx}
-use Rattle.idb_desk.specs.declared.stands.DeskRequest.{DeskRequest}
-use Rattle.idb_desk.specs.declared.stands.TxKind.{TxKind}
-use Rattle.idb_desk.specs.declared.stands.TxKind.TheVariants as kind
-use Rattle.idb_desk.specs.declared.steps.DeskStep.{DeskStep}
-use Rattle.idb_desk.specs.declared.steps.DeskStep.TheVariants as step
+use Rattle.desk_steps.specs.declared.stands.DrawnTx.{DrawnTx}
+use Rattle.desk_steps.specs.declared.stands.DeskRequest.{DeskRequest}
+use Rattle.desk_steps.specs.declared.stands.TxKind.{TxKind}
+use Rattle.desk_steps.specs.declared.stands.TxKind.TheVariants as kind
+use Rattle.desk_steps.specs.declared.steps.DeskStep.{DeskStep}
+use Rattle.desk_steps.specs.declared.steps.DeskStep.TheVariants as step
 use Rattle.idb_desk.specs.Desks.{DeskState, DeskBoard, name_asked_by, request_at, stand_where, drawn_at}
 use Rattle.idb_desk.specs.Refusals.{is_allowed, is_committed, is_given, is_usable, refusal_of_create, has_stores, is_open_conn, is_empty_scope, is_version_change, is_at_limit}
 use Rattle.idb_desk.specs.Steps.{after, after_event, after_take, event_for, drawn_whole, after_created, after_left, answer_of, number_of_event}

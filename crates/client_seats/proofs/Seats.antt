@@ -15,9 +15,9 @@ use Rattle.name_queues.specs.declared.asks.Wants.{Wants}
 use Rattle.name_queues.specs.declared.events.ClientEvent.{ClientEvent}
 use Rattle.name_queues.specs.Mails.{conn_of}
 use Rattle.scope_desk.specs.Rising.{IsRising, AreAllBelow}
-use Rattle.idb_desk.specs.declared.steps.DeskStep.{DeskStep}
-use Rattle.idb_desk.specs.declared.steps.DeskStep.TheVariants as step
-use Rattle.idb_desk.specs.declared.stands.DeskRequest.{DeskRequest}
+use Rattle.desk_steps.specs.declared.steps.DeskStep.{DeskStep}
+use Rattle.desk_steps.specs.declared.steps.DeskStep.TheVariants as step
+use Rattle.desk_steps.specs.declared.stands.DeskRequest.{DeskRequest}
 use Rattle.idb_desk.specs.Desks.{DeskState, asks_of}
 use Rattle.idb_desk.specs.Refusals.{is_allowed, refusal_of_step, has_version, is_at_limit, refusal_of_ask}
 use Rattle.idb_desk.specs.Steps.{after, after_all, new_desk, DeskRun, desk_run, with_step, answer_of}

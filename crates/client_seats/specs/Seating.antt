@@ -9,8 +9,8 @@ use Rattle.std.specs.Prelude.{◌≡◌, ℕ, ◌≤◌, ◌==◌, Bool, false, 
 use Rattle.name_queues.specs.declared.asks.Wants.{Wants}
 use Rattle.scope_desk.specs.Rising.{IsRising, AreAllBelow}
 use Rattle.idb_desk.specs.declared.allowing.TheConstants.{GREATEST_ASK_COUNT}
-use Rattle.idb_desk.specs.declared.steps.DeskStep.{DeskStep}
-use Rattle.idb_desk.specs.declared.steps.DeskStep.TheVariants as step
+use Rattle.desk_steps.specs.declared.steps.DeskStep.{DeskStep}
+use Rattle.desk_steps.specs.declared.steps.DeskStep.TheVariants as step
 use Rattle.idb_desk.specs.Desks.{DeskState, asks_of}
 use Rattle.idb_desk.specs.Steps.{DeskRun, desk_run}
 use Rattle.item_changes.specs.Items.{Name}

@@ -4,7 +4,7 @@ ghost use Rattle.idb_schema.specs.Schemas.{SchemaData};
 ghost use Rattle.name_queues.specs.declared.asks.Wants.{Wants};
 ghost use Rattle.name_queues.specs.declared.events.ClientEvent.{ClientEvent};
 ghost use Rattle.name_queues.specs.Mails.{conn_of};
-ghost use Rattle.idb_desk.specs.declared.steps.DeskStep.{DeskStep};
+ghost use Rattle.desk_steps.specs.declared.steps.DeskStep.{DeskStep};
 ghost use Rattle.idb_desk.specs.Desks.{asks_of};
 ghost use Rattle.idb_desk.specs.Refusals.{is_allowed, refusal_of_step};
 ghost use Rattle.idb_desk.specs.Steps.{DeskRun, desk_run, with_step, answer_of};

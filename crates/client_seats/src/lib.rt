@@ -6,4 +6,5 @@
 
 mod laws_of_seats;
 
+pub use client_machine::GREATEST_POST_COUNT;
 pub use laws_of_seats::seat_laws;

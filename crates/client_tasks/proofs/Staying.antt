@@ -1,5 +1,5 @@
 -- A client stays seated at each part of its steps.
---     stays_seated, later_seated, same_seated       the desk did nothing;  it made a step that is no ask;  the client is as it was
+--     later_seated, same_seated     it made a step that is no ask;  the client is as it was
 --     posted_seated         it made a step that is no ask, and posts came
 --     take_allowed          an event that is there may be taken
 --     taken_seated          behind an event, and what it makes of its open
@@ -12,8 +12,8 @@ use Rattle.std.proofs.lemmas.Bool.{eqb-true}
 use Rattle.std.proofs.lemmas.List.{nil_from_length}
 use Rattle.name_queues.specs.Mails.{conn_of}
 use Rattle.name_queues.specs.declared.events.ClientEvent.{ClientEvent}
-use Rattle.idb_desk.specs.declared.steps.DeskStep.{DeskStep}
-use Rattle.idb_desk.specs.declared.steps.DeskStep.TheVariants as step
+use Rattle.desk_steps.specs.declared.steps.DeskStep.{DeskStep}
+use Rattle.desk_steps.specs.declared.steps.DeskStep.TheVariants as step
 use Rattle.idb_desk.specs.Desks.{DeskState}
 use Rattle.idb_desk.specs.Refusals.{is_allowed, has_some}
 use Rattle.idb_desk.specs.Steps.{DeskRun, desk_run, with_step, event_for, answer_of}
@@ -22,9 +22,6 @@ use Rattle.client_machine.specs.ClientStates.{OpenAsked, ClientTx, ClientState, 
 use Rattle.client_machine.specs.ClientSteps.{given_by_event, after_event_of}
 use Rattle.client_seats.specs.Seating.{IsSeated, SitsAlike, is_ask_of}
 use Rattle.client_seats.proofs.Laws.{seat_later, seat_drew, seat_given, seat_started, seat_finished, seat_alike}
-
-pub stays_seated : (c : ClientState) (r last : DeskRun) → IsSeated c r → last ≡ r → IsSeated c last
-stays_seated c r last s same = subst (λ q. IsSeated c q) (sym same) s
 
 pub later_seated : (c : ClientState) (r last : DeskRun) (t : DeskStep) → IsSeated c r → is_ask_of c.number t ≡ false → last ≡ with_step r t → IsSeated c last
 later_seated c r last t s other made = subst (λ q. IsSeated c q) (sym made) (seat_later c r t s other)

@@ -1,5 +1,4 @@
 -- Steps of a client in its office, from what their parts did.
---     ran_task              its oldest task
 --     took_plain, took_change, took_deletion, took_upgrade      an event, by its kind
 --     ended_own, ended_upgrade, ended_deletion, has_finished, has_finished_unstarted      the end of a transaction
 use Rattle.std.proofs.Common.{◌≡◌, ℕ, Bool, true, false, List, [], ◌∷◌, ◌++◌, length, drop, map, filter, if◌then◌else◌, Option, Some, None, refl, sym, ap, ◌∙◌, subst, append_assoc}
@@ -14,9 +13,9 @@ use Rattle.name_queues.specs.Mails.{conn_of}
 use Rattle.name_queues.specs.declared.ids.ConnId.{ConnId}
 use Rattle.name_queues.specs.declared.events.ClientEvent.{ClientEvent}
 use Rattle.name_queues.specs.declared.events.ClientEvent.TheVariants as event
-use Rattle.idb_desk.specs.declared.steps.DeskStep.TheVariants as step
+use Rattle.desk_steps.specs.declared.steps.DeskStep.TheVariants as step
 use Rattle.connection_queues.specs.Machine.{schema_of}
-use Rattle.idb_desk.specs.declared.stands.DeskRequest.{DeskRequest}
+use Rattle.desk_steps.specs.declared.stands.DeskRequest.{DeskRequest}
 use Rattle.idb_desk.specs.Desks.{request_at}
 use Rattle.idb_desk.specs.Steps.{DeskRun, desk_run, with_step, event_for, answer_of}
 use Rattle.report_lines.specs.declared.lines.Line.{Line}
@@ -65,15 +64,6 @@ line_is : (before mid : List Note) (l k : Line) → l ≡ k → mid ≡ before +
 line_is before mid l k is wrote = wrote ∙ ap (λ (x : Line). before ++ note.Line x ∷ []) is
 
 -- ---- tasks
-pub ran_task : (old new : OfficeState) (task : Task) (tasks : List Task) (before after : List Note) → old.client.tasks ≡ task ∷ tasks
-    → RunsNowInto (moved_to old (with_tasks old.client tasks) old.run) task.env (Some task.block) before new after → RunsTaskInto old before new after
-ran_task old new task tasks before after is g = record {
-  task = task;
-  tasks = tasks;
-  acts = g.acts;
-  first = is;
-  runs = g.runs;
-  follows = record { made = g.follows.made; number = g.follows.number; blocks = g.follows.blocks; lines = g.follows.lines };
 }
 
 -- ---- events

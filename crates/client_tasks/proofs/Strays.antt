@@ -2,7 +2,7 @@
 --     told_event, told_drawn, told_schema_is        what the desk tells with a take
 --     read_none, read_some  what was read
 --     number_drawn          the number that is drawn, where the desk knows the open
---     stray_open, stray_number, stray_schema        why an event is stray;  not_stray: want of memory is none
+--     stray_open, stray_number, stray_schema        why an event is stray
 use Rattle.std.proofs.Common.{◌≡◌, ℕ, Bool, true, false, List, Option, Some, None, refl, sym, ap, ◌∙◌, Bor}
 use Rattle.std.specs.Prelude.{◌||◌, ◌&&◌, is_none, option_map}
 use Rattle.std.specs.Option.{option_copied}
@@ -12,8 +12,8 @@ use Rattle.name_queues.specs.declared.ids.ConnId.{ConnId}
 use Rattle.name_queues.specs.declared.events.ClientEvent.{ClientEvent}
 use Rattle.name_queues.specs.declared.events.ClientEvent.TheVariants as event
 use Rattle.connection_queues.specs.Machine.{schema_of}
-use Rattle.idb_desk.specs.declared.stands.DeskRequest.{DeskRequest}
-use Rattle.idb_desk.specs.declared.steps.DeskStep.TheVariants as step
+use Rattle.desk_steps.specs.declared.stands.DeskRequest.{DeskRequest}
+use Rattle.desk_steps.specs.declared.steps.DeskStep.TheVariants as step
 use Rattle.idb_desk.specs.Desks.{DeskState, request_at}
 use Rattle.idb_desk.specs.Steps.{desk_run, event_for, answer_of, number_of_event}
 use Rattle.client_machine.specs.Answering.{told_by, at_new_version, schema_of_event}
@@ -104,6 +104,3 @@ module _ (o : OfficeState) (e : ClientEvent) (is : event_for (desk_run o.run) o.
     stray = other_true (is_none (open_at o.client (conn_of e).request)) (wants_number e && is_none (told_take o).number) (wants_schema e) (is_none (told_take o).schema)
         (both_true (wants_schema e) (is_none (told_take o).schema) wants (ap (λ (s : Option SchemaData). is_none s) none));
   }
-
-pub not_stray : {P : Type 0} (e : TakeError) → e ≡ why.NoMemory → e ≡ why.Stray → P
-not_stray e wants stray = cc

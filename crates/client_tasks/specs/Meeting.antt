@@ -2,7 +2,7 @@
 --     open_numbered         the open of a number
 --     HandlesInto           a versionchange event was handled, where one was left
 use Rattle.std.specs.Prelude.{◌≡◌, ℕ, ◌-◌, ◌==◌, false, List, Option, None, if◌then◌else◌, slice_get}
-use Rattle.idb_desk.specs.declared.steps.DeskStep.TheVariants as step
+use Rattle.desk_steps.specs.declared.steps.DeskStep.TheVariants as step
 use Rattle.idb_desk.specs.Refusals.{is_allowed}
 use Rattle.idb_desk.specs.Steps.{DeskRun, desk_run, with_step}
 use Rattle.client_machine.specs.ClientStates.{OpenAsked}

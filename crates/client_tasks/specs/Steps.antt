@@ -16,7 +16,7 @@ use Rattle.idb_schema.specs.Schemas.{SchemaData}
 use Rattle.name_queues.specs.Mails.{conn_of}
 use Rattle.name_queues.specs.declared.events.ClientEvent.{ClientEvent}
 use Rattle.name_queues.specs.declared.events.ClientEvent.TheVariants as event
-use Rattle.idb_desk.specs.declared.steps.DeskStep.TheVariants as step
+use Rattle.desk_steps.specs.declared.steps.DeskStep.TheVariants as step
 use Rattle.idb_desk.specs.Refusals.{is_allowed, has_some}
 use Rattle.idb_desk.specs.Steps.{desk_run, event_for}
 use Rattle.serial_order.specs.FinishEntries.{TxBody}

@@ -2,7 +2,7 @@
 ghost use Rattle.std.specs.Prelude.{◌≡◌, [], true, false, drop, ◌++◌, List, Option, Some, None, ⊤, IfOk, OnOk, IfSome, IfNone};
 ghost use Rattle.idb_desk.specs.Refusals.{is_allowed};
 ghost use Rattle.idb_desk.specs.Steps.{desk_run, with_step};
-ghost use Rattle.idb_desk.specs.declared.steps.DeskStep.TheVariants as step;
+ghost use Rattle.desk_steps.specs.declared.steps.DeskStep.TheVariants as step;
 ghost use Rattle.serial_order.specs.SerialRuns.{joined_lines};
 ghost use Rattle.script_runs.specs.declared.notes.Note.{Note};
 ghost use Rattle.client_machine.specs.ClientStates.{ClientState, ClientTx, tx_at, without_tx};

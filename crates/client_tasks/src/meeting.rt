@@ -5,7 +5,7 @@ ghost use Rattle.name_queues.specs.declared.events.ClientEvent.TheVariants as ev
 ghost use Rattle.name_queues.specs.Mails.{conn_of};
 ghost use Rattle.idb_desk.specs.Refusals.{has_some};
 ghost use Rattle.idb_desk.specs.Steps.{desk_run, event_for, with_step};
-ghost use Rattle.idb_desk.specs.declared.steps.DeskStep.TheVariants as step;
+ghost use Rattle.desk_steps.specs.declared.steps.DeskStep.TheVariants as step;
 ghost use Rattle.client_machine.specs.ClientStates.{OpenAsked, open_at};
 ghost use Rattle.client_machine.specs.ClientSteps.{is_plain_event, after_event_of, given_by_event};
 ghost use Rattle.client_tasks.specs.Meeting.{HandlesInto, open_numbered};

@@ -20,14 +20,14 @@ use Rattle.name_queues.specs.Mails.{conn_of}
 use Rattle.connection_queues.specs.Machine.{schema_of}
 use Rattle.scope_desk.specs.declared.tickets.Ticket.{Ticket}
 use Rattle.scope_desk.specs.Starts.{Scopes, created, finished}
-use Rattle.idb_desk.specs.declared.stands.DeskRequest.{DeskRequest}
-use Rattle.idb_desk.specs.declared.stands.DrawnTx.{DrawnTx}
-use Rattle.idb_desk.specs.declared.stands.TxKind.{TxKind}
-use Rattle.idb_desk.specs.declared.stands.TxKind.TheVariants as kind
-use Rattle.idb_desk.specs.declared.stands.TxStage.{TxStage}
-use Rattle.idb_desk.specs.declared.stands.TxStage.TheVariants as stage
-use Rattle.idb_desk.specs.declared.steps.DeskStep.{DeskStep}
-use Rattle.idb_desk.specs.declared.steps.DeskStep.TheVariants as step
+use Rattle.desk_steps.specs.declared.stands.DeskRequest.{DeskRequest}
+use Rattle.desk_steps.specs.declared.stands.DrawnTx.{DrawnTx}
+use Rattle.desk_steps.specs.declared.stands.TxKind.{TxKind}
+use Rattle.desk_steps.specs.declared.stands.TxKind.TheVariants as kind
+use Rattle.desk_steps.specs.declared.stands.TxStage.{TxStage}
+use Rattle.desk_steps.specs.declared.stands.TxStage.TheVariants as stage
+use Rattle.desk_steps.specs.declared.steps.DeskStep.{DeskStep}
+use Rattle.desk_steps.specs.declared.steps.DeskStep.TheVariants as step
 use Rattle.idb_desk.specs.Desks.{DeskState, name_asked_by, request_at, stand_where, drawn_at, stages_where, with_stage}
 use Rattle.idb_desk.specs.Refusals.{is_allowed, refusal_of_create, is_usable, is_given, has_stores, is_to_start, is_created_stage, may_leave_where, is_committed}
 use Rattle.idb_desk.specs.Steps.{after, after_all, after_take, after_created, after_left, drawn_whole, event_for, answer_of, number_of_event, new_desk, DeskRun, desk_run, IsDeskRun, AreAllowed}

@@ -13,8 +13,8 @@ use Rattle.idb_calls.specs.declared.traces.Outcome.{Outcome}
 use Rattle.name_queues.specs.declared.events.ClientEvent.{ClientEvent}
 use Rattle.name_queues.specs.declared.events.ClientEvent.TheVariants as event
 use Rattle.name_queues.specs.declared.ids.ConnId.{ConnId}
-use Rattle.idb_desk.specs.declared.steps.DeskStep.{DeskStep}
-use Rattle.idb_desk.specs.declared.steps.DeskStep.TheVariants as step
+use Rattle.desk_steps.specs.declared.steps.DeskStep.{DeskStep}
+use Rattle.desk_steps.specs.declared.steps.DeskStep.TheVariants as step
 use Rattle.idb_desk.specs.Desks.{DeskState}
 use Rattle.idb_desk.specs.Steps.{DeskRun, desk_run, with_step, IsDeskRun, answer_of, number_of_event}
 use Rattle.idb_desk.specs.Tokens.{client_of}

@@ -9,3 +9,4 @@ pub use Rattle.client_ties.proofs.Effects.{IsSound, sound_run, is_drawing, step_
 pub use Rattle.client_ties.proofs.Making.{made_split, made_before, run_before, run_after, made_notes, made_turns}
 pub use Rattle.client_ties.proofs.Growing.{is_tame, Grows, notes_txs, grows_now, grows_event, grows_end}
 pub use Rattle.client_ties.proofs.Stepping.{none_unfinished, least_unfinished, IsDrawnAs, first_drawn}
+pub use Rattle.client_machine.proofs.Laws.{agrees_begins, agrees_other, agrees_own, all_still}

@@ -22,11 +22,11 @@ use Rattle.name_queues.specs.Moves.{Moved, closed_conn, tx_ended, upgrade_ended,
 use Rattle.name_queues.specs.Mails.{Mail, conn_of, is_mail, posted, sent, sent_all, events_of, taken_of, without_oldest, taken_mail, lost_change, lost_changes, with_taken, with_mail, is_change_of, is_change}
 use Rattle.connection_queues.specs.Machine.{QueueState, sent_at, moved_at, is_admitted, enqueued, refused, after_ask, lose_where, closed, taken_event, handled, handled_first, unhandled, schema_of}
 use Rattle.connection_queues.specs.Runs.{settled_name}
-use Rattle.idb_desk.specs.declared.stands.DrawnTx.{DrawnTx}
-use Rattle.idb_desk.specs.declared.stands.TxKind.{TxKind}
-use Rattle.idb_desk.specs.declared.stands.TxKind.TheVariants as kind
-use Rattle.idb_desk.specs.declared.steps.DeskStep.{DeskStep}
-use Rattle.idb_desk.specs.declared.steps.DeskStep.TheVariants as step
+use Rattle.desk_steps.specs.declared.stands.DrawnTx.{DrawnTx}
+use Rattle.desk_steps.specs.declared.stands.TxKind.{TxKind}
+use Rattle.desk_steps.specs.declared.stands.TxKind.TheVariants as kind
+use Rattle.desk_steps.specs.declared.steps.DeskStep.{DeskStep}
+use Rattle.desk_steps.specs.declared.steps.DeskStep.TheVariants as step
 use Rattle.idb_desk.specs.Desks.{DeskState, changes_in, name_asked_by, drawn_at}
 use Rattle.idb_desk.specs.Refusals.{is_committed}
 use Rattle.idb_desk.specs.Queueing.{settled_where}

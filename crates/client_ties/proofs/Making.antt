@@ -5,7 +5,7 @@
 --     made_notes            notes make no step
 --     others_made           of other clients' transactions nothing changes
 use Rattle.std.proofs.Common.{◌≡◌, ◌≢◌, ℕ, true, List, [], ◌∷◌, ◌++◌, map, refl, ◌∙◌, ap, subst}
-use Rattle.idb_desk.specs.declared.steps.DeskStep.{DeskStep}
+use Rattle.desk_steps.specs.declared.steps.DeskStep.{DeskStep}
 use Rattle.idb_desk.specs.Desks.{DeskState}
 use Rattle.idb_desk.specs.Refusals.{is_allowed}
 use Rattle.idb_desk.specs.Steps.{after, after_all, new_desk, DeskRun, desk_run, with_step, IsDeskRun, AreAllowed}

@@ -1,2 +1,10 @@
 pub mod Unfinished
 pub mod Ties
+pub use Rattle.client_machine.specs.Acts
+pub use Rattle.client_machine.specs.Answering
+pub use Rattle.client_machine.specs.ClientStates
+pub use Rattle.client_machine.specs.ClientSteps
+pub use Rattle.client_machine.specs.FinishEntries
+pub use Rattle.client_machine.specs.NumberOrder
+pub use Rattle.client_machine.specs.SerialRuns
+pub use Rattle.client_machine.specs.TaskRuns

@@ -10,9 +10,9 @@
 --     AreDrawn              these drew the numbers that come next
 --     Draws                 between two desks these drew their numbers, and nothing else of the unfinished transactions changed
 use Rattle.std.specs.Prelude.{◌≡◌, ℕ, ◌+◌, Bool, true, false, not, ◌==◌, List, [], ◌∷◌, ◌++◌, map, filter, slice_get, if◌then◌else◌, Option, option_map}
-use Rattle.idb_desk.specs.declared.stands.DrawnTx.{DrawnTx}
-use Rattle.idb_desk.specs.declared.stands.TxStage.{TxStage}
-use Rattle.idb_desk.specs.declared.stands.TxStage.TheVariants as stage
+use Rattle.desk_steps.specs.declared.stands.DrawnTx.{DrawnTx}
+use Rattle.desk_steps.specs.declared.stands.TxStage.{TxStage}
+use Rattle.desk_steps.specs.declared.stands.TxStage.TheVariants as stage
 use Rattle.idb_desk.specs.Desks.{DeskState}
 
 pub record UnfinishedTx : Type 0 where

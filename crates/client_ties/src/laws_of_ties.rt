@@ -1,7 +1,7 @@
 // The laws of ties.
 ghost use Rattle.std.specs.Prelude.{◌≡◌, ◌≢◌, ℕ, not, List, [], map, Option, Some, None};
 ghost use Rattle.idb_schema.specs.Schemas.{SchemaData};
-ghost use Rattle.idb_desk.specs.declared.stands.DrawnTx.{DrawnTx};
+ghost use Rattle.desk_steps.specs.declared.stands.DrawnTx.{DrawnTx};
 ghost use Rattle.idb_desk.specs.Desks.{drawn_at};
 ghost use Rattle.idb_desk.specs.Refusals.{is_created_stage};
 ghost use Rattle.idb_desk.specs.Steps.{DeskRun, desk_run, IsDeskRun};

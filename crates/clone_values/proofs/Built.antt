@@ -8,16 +8,15 @@ use Rattle.std.specs.Cmp.Lexicographic.{slice_cmp}
 use Rattle.std.specs.List.{list_any, list_all, position_from}
 use Rattle.std.proofs.lemmas.List.Folds.{list_any-append}
 use Rattle.std.proofs.lemmas.List.{map-append, map-set, set-get_or, length-set}
-use Rattle.idb_base.specs.Lists.{IsWithinLimit, FitsOneMore}
-use Rattle.idb_base.specs.declared.limits.TheConstants.{GREATEST_LENGTH}
-use Rattle.clone_values.specs.Tree.{Tree, Trees, Members, PairTrees, list_of_trees, list_of_members, list_of_pairs, array, object, map_object, set_object, trees_of, members_of, pairs_of}
-use Rattle.clone_values.specs.Names.{names_of, is_rising, set_member}
-use Rattle.clone_values.specs.Sameness.{is_primitive, same_tree, repeats, put_once, put_pair, set_at_place}
-use Rattle.clone_values.specs.WellFormed.{is_value, are_values, member_values, pair_values, are_once, are_properties, is_within_limit, is_text, is_array_name, IsValue}
-use Rattle.clone_values.specs.Cloneable.{is_cloneable_within, members_cloneable_within}
-use Rattle.clone_values.proofs.Lists.{trees_again, members_again, pairs_again}
+use Rattle.value_trees.specs.Lists.{IsWithinLimit, FitsOneMore}
+use Rattle.value_trees.specs.TheConstants.{GREATEST_LENGTH}
+use Rattle.value_trees.specs.Tree.{Tree, Trees, Members, PairTrees, list_of_trees, list_of_members, list_of_pairs, array, object, map_object, set_object, trees_of, members_of, pairs_of}
+use Rattle.value_trees.specs.Names.{names_of, is_rising, set_member}
+use Rattle.value_trees.specs.Sameness.{is_primitive, same_tree, repeats, put_once, put_pair, set_at_place}
+use Rattle.value_trees.specs.WellFormed.{is_value, are_values, member_values, pair_values, are_once, are_properties, is_within_limit, is_text, is_array_name, IsValue}
+use Rattle.value_trees.specs.Cloneable.{is_cloneable_within, members_cloneable_within}
+use Rattle.value_trees.proofs.Laws.{trees_again, members_again, pairs_again, same_tree_decides}
 use Rattle.clone_values.proofs.NamesLaws.{rising_set}
-use Rattle.clone_values.proofs.SamenessLaws.{same_tree_decides}
 use Rattle.clone_values.proofs.Sorting.{set_longer}
 
 pub both_so : (a b : Bool) → a ≡ true → b ≡ true → (a && b) ≡ true

@@ -1,12 +1,12 @@
 -- The walk that stops at a depth tells whether a value can be cloned.
 use Rattle.std.proofs.Common.{List, ◌<◌, ◌≡◌, ◌↔◌, ℕ, ◌+◌, ◌-◌, ◌≤◌, Bool, true, false, not, ◌&&◌, ◌||◌, nat_lt, nat_le, max, IsTrue, le-leb, refl, sym, ◌∙◌, ap, arith}
 use Rattle.std.proofs.lemmas.Grind.{common_steps}
-use Rattle.idb_base.specs.declared.limits.TheConstants.{GREATEST_DEPTH}
-use Rattle.clone_values.specs.Tree.{Tree, Trees, Members, PairTrees, undefined, null, boolean, int, text, date, bytes, array, object, map_object, set_object, function, members_of, no_trees, tree_more, no_members, member_more, no_pairs, pair_more}
-use Rattle.clone_values.specs.Names.{set_member}
-use Rattle.clone_values.specs.Values.{depth_of, trees_depth, members_depth, pairs_depth, holds_function, trees_hold_function, members_hold_function, pairs_hold_function, IsCloneable}
+use Rattle.value_trees.specs.TheConstants.{GREATEST_DEPTH}
+use Rattle.value_trees.specs.Tree.{Tree, Trees, Members, PairTrees, undefined, null, boolean, int, text, date, bytes, array, object, map_object, set_object, function, members_of, no_trees, tree_more, no_members, member_more, no_pairs, pair_more}
+use Rattle.value_trees.specs.Names.{set_member}
+use Rattle.value_trees.specs.Values.{depth_of, trees_depth, members_depth, pairs_depth, holds_function, trees_hold_function, members_hold_function, pairs_hold_function, IsCloneable}
 use Rattle.clone_values.proofs.Built.{cloneable_set}
-use Rattle.clone_values.specs.Cloneable.{is_cloneable_within, are_cloneable_within, members_cloneable_within, pairs_cloneable_within}
+use Rattle.value_trees.specs.Cloneable.{is_cloneable_within, are_cloneable_within, members_cloneable_within, pairs_cloneable_within}
 
 -- none of the first sort, and at most so deep
 abbrev fits : Bool → ℕ → ℕ → Bool

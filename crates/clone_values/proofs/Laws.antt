@@ -10,10 +10,9 @@
 --     values_push, put_kept, put_longer, pair_kept, pair_longer   the same of items pushed, and members and entries put
 --     cloneable_within, within_cloneable, cloneable_set   what can be cloned, as the walk that stops at a depth tells it
 pub use Rattle.clone_values.specs.Falls.{below_StandsAt}
-pub use Rattle.clone_values.proofs.Lists.{trees_again, members_again, pairs_again}
+pub use Rattle.value_trees.proofs.Laws.{trees_again, members_again, pairs_again, same_tree_decides}
 pub use Rattle.clone_values.proofs.Places.{stands_from_got}
 pub use Rattle.clone_values.proofs.NamesLaws.{rising_set}
-pub use Rattle.clone_values.proofs.SamenessLaws.{same_tree_decides}
 pub use Rattle.clone_values.proofs.Sorting.{set_longer, all_longer, all_rising}
 pub use Rattle.clone_values.proofs.Built.{both_so, ArrayFits, array_fits, array_again, ObjectFits, object_fits, object_again, MapFits, map_fits, map_again, SetFits, set_fits, set_again}
 pub use Rattle.clone_values.proofs.Built.{all_set, values_set, names_set, properties_set, cloneable_set}

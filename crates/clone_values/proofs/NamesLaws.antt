@@ -13,10 +13,10 @@ use Rattle.std.proofs.lemmas.List.{set_split, length-set}
 use Rattle.std.proofs.lemmas.List.Edits.{length-insert}
 use Rattle.std.proofs.Math.Seq.{drop-length}
 use Rattle.std.proofs.lemmas.Cmp.{nat_list_cmp_total, tied_itself}
-use Rattle.clone_values.specs.Tree.{Tree}
-use Rattle.idb_base.specs.Lists.{StandsAt, IsWithinLimit, FitsOneMore}
+use Rattle.value_trees.specs.Tree.{Tree}
+use Rattle.value_trees.specs.Lists.{StandsAt, IsWithinLimit, FitsOneMore}
 use Rattle.clone_values.specs.Falls.{below_StandsAt}
-use Rattle.clone_values.specs.Names.{names_of, rises_after, is_rising, set_member, get_member, HasNameAt}
+use Rattle.value_trees.specs.Names.{names_of, rises_after, is_rising, set_member, get_member, HasNameAt}
 
 lt_less : (o : Ordering) → is_lt o ≡ true → o ≡ Less
 lt_less Less e = refl

@@ -4,7 +4,7 @@ use Rattle.std.proofs.Common.{◌≡◌, ◌∙◌, ℕ, zero, suc, ◌<◌, ◌
 use Rattle.std.specs.List.{HoldsAt, insert}
 use Rattle.std.proofs.lemmas.List.{map-append, map-set, length-set, take-map, drop-map}
 use Rattle.std.proofs.lemmas.Result.{on_ok_weaker}
-use Rattle.idb_base.specs.Lists.{StandsAt, IsWithinLimit}
+use Rattle.value_trees.specs.Lists.{StandsAt, IsWithinLimit}
 
 stands : {A B : Type 0} (f : A → B) (vs : List A) (i : ℕ) (x : A) → i < length vs → x ≡ get_or vs i x → StandsAt (map f vs) i (f x)
 stands f [] i x lt e = absurd (omega arith)

@@ -6,9 +6,9 @@ use Rattle.std.specs.Ordering.{nat_cmp, match_ordering}
 use Rattle.std.specs.Cmp.Lexicographic.{slice_cmp}
 use Rattle.std.specs.BTreeMap.{insert_entry}
 use Rattle.std.specs.FinMap.{nat_cmp-IsAntisymmetric, slice_cmp-IsAntisymmetric}
-use Rattle.clone_values.specs.Tree.{Tree}
+use Rattle.value_trees.specs.Tree.{Tree}
 use Rattle.clone_values.specs.View.{tree_of, named_value_of}
-use Rattle.clone_values.specs.Names.{names_of, is_rising, set_member, set_members}
+use Rattle.value_trees.specs.Names.{names_of, is_rising, set_member, set_members}
 use Rattle.clone_values.specs.declared.value_types.Value.{Value}
 use Rattle.clone_values.proofs.NamesLaws.{rising_set}
 

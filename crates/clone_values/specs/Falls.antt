@@ -2,9 +2,9 @@
 use Rattle.std.specs.Prelude.{◌≡◌, ℕ, zero, suc, ◌+◌, ◌<◌, ◌≤◌, List, [], ◌∷◌, map}
 use Rattle.std.proofs.Common.{arith, add-one}
 use denote.Param.Weighed.{most}
-use Rattle.idb_base.specs.Lists.{StandsAt}
-use Rattle.clone_values.specs.Tree.{Tree, tree_size, trees_size, members_size, pairs_size, trees_of, members_of, pairs_of}
-use Rattle.clone_values.specs.KeyTree.{KeyTree, key_size, keys_size, key_trees_of}
+use Rattle.value_trees.specs.Lists.{StandsAt}
+use Rattle.value_trees.specs.Tree.{Tree, tree_size, trees_size, members_size, pairs_size, trees_of, members_of, pairs_of}
+use Rattle.value_trees.specs.KeyTree.{KeyTree, key_size, keys_size, key_trees_of}
 use Rattle.clone_values.specs.View.{tree_of, prop_of, pair_of, key_tree_of}
 use Rattle.clone_values.specs.declared.value_types.Value.{Value}
 use Rattle.clone_values.specs.declared.value_types.Value.TheVariants as value

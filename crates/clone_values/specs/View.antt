@@ -1,8 +1,8 @@
 -- The whole tree of a value or a key whose members are already seen as trees.
 use Rattle.std.specs.Prelude.{ℕ, List}
-use Rattle.clone_values.specs.Tree.{Tree, undefined, null, boolean, int, text, date, bytes, array, object, map_object, set_object, function, trees_of, members_of, pairs_of}
-use Rattle.clone_values.specs.KeyTree.{KeyTree, key_trees_of}
-use Rattle.clone_values.specs.KeyTree as keys
+use Rattle.value_trees.specs.Tree.{Tree, undefined, null, boolean, int, text, date, bytes, array, object, map_object, set_object, function, trees_of, members_of, pairs_of}
+use Rattle.value_trees.specs.KeyTree.{KeyTree, key_trees_of}
+use Rattle.value_trees.specs.KeyTree as keys
 use Rattle.clone_values.specs.declared.value_types.Value.{Value}
 use Rattle.clone_values.specs.declared.value_types.Value.TheVariants as value
 use Rattle.clone_values.specs.declared.value_types.Prop.{Prop}

@@ -1,16 +1,16 @@
 // Whether a value keeps to the ranges, sizes and names.
 ghost use Rattle.std.specs.Prelude.{◌≡◌, ℕ, ◌+◌, ◌≤◌, true, List, length, map, drop};
 ghost use Rattle.std.specs.List.{list_any, list_all};
-ghost use Rattle.clone_values.specs.Tree.{trees_of, members_of, pairs_of};
+ghost use Rattle.value_trees.specs.Tree.{trees_of, members_of, pairs_of};
 ghost use Rattle.clone_values.specs.View.{tree_of};
-ghost use Rattle.clone_values.specs.Names.{names_of};
-ghost use Rattle.clone_values.specs.Sameness.{repeats};
-ghost use Rattle.clone_values.specs.WellFormed.{is_value, is_well_made, are_values, member_values, pair_values, is_int, is_date, are_once, is_array_name, are_properties, is_within_limit, are_digits, is_text, is_byte_string};
+ghost use Rattle.value_trees.specs.Names.{names_of};
+ghost use Rattle.value_trees.specs.Sameness.{repeats};
+ghost use Rattle.value_trees.specs.WellFormed.{is_value, is_well_made, are_values, member_values, pair_values, is_int, is_date, are_once, is_array_name, are_properties, is_within_limit, are_digits, is_text, is_byte_string};
 
 use crate::putting::repeats;
 use crate::small_lists::Text;
 use crate::value_types::{Items, Pairs, Props, Value};
-use idb_base::{GREATEST_DATE, GREATEST_INT, GREATEST_LENGTH, LEAST_DATE, LEAST_INT};
+use value_trees::{GREATEST_DATE, GREATEST_INT, GREATEST_LENGTH, LEAST_DATE, LEAST_INT};
 
 /// Whether the value keeps to the ranges of numbers and dates, the sizes, the names of properties, and primitive
 /// members that stand once; it takes no memory.
@@ -31,7 +31,7 @@ pub fn well_formed(v: &Value) -> bool
 }
 
 /// Whether the value by itself keeps to the rules, whatever stands in its lists.
-#[tactic(auto, using(crate::proofs::Lists::trees_again, crate::proofs::Lists::members_again, crate::proofs::Lists::pairs_again))]
+#[tactic(auto, using(value_trees::proofs::Laws::trees_again, value_trees::proofs::Laws::members_again, value_trees::proofs::Laws::pairs_again))]
 fn is_well_made(v: &Value) -> bool
     ensures { result ≡ is_well_made (tree_of v.now) }
 {
@@ -93,7 +93,7 @@ fn pairs_well_formed(pairs: &Pairs) -> bool
     true
 }
 
-#[tactic(auto, using(crate::proofs::Lists::is_unicode))]
+#[tactic(auto, using(value_trees::proofs::Laws::is_unicode))]
 fn is_text(s: &Text) -> bool
     ensures { result ≡ is_text s.now }
 {

@@ -1,14 +1,14 @@
 // Copies, clones, depth and sameness of values (HTML, StructuredSerializeForStorage).
 ghost use Rattle.std.specs.Prelude.{◌≡◌, ℕ, ◌≤◌, ◌↔◌, min, IsTrue, IfOk, OnOk, IsErrOf};
-ghost use Rattle.clone_values.specs.Tree.{trees_of, members_of, pairs_of};
+ghost use Rattle.value_trees.specs.Tree.{trees_of, members_of, pairs_of};
 ghost use Rattle.clone_values.specs.View.{tree_of};
-ghost use Rattle.clone_values.specs.Values.{depth_of, trees_depth, members_depth, pairs_depth, IsCloneable};
-ghost use Rattle.clone_values.specs.Cloneable.{is_cloneable_within, are_cloneable_within, members_cloneable_within, pairs_cloneable_within};
+ghost use Rattle.value_trees.specs.Values.{depth_of, trees_depth, members_depth, pairs_depth, IsCloneable};
+ghost use Rattle.value_trees.specs.Cloneable.{is_cloneable_within, are_cloneable_within, members_cloneable_within, pairs_cloneable_within};
 
 use crate::copies::copy_value;
 use crate::value_types::{Items, Pairs, Props, Value};
-use idb_base::{GREATEST_DEPTH, NoMemory};
 use std::alloc::Global;
+use value_trees::{GREATEST_DEPTH, NoMemory};
 
 /// Why a value was not cloned.
 #[derive(Clone, Copy, Debug, PartialEq, Eq)]

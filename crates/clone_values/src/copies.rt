@@ -3,8 +3,8 @@ ghost use Rattle.std.specs.Prelude.{◌≡◌, IfOk};
 
 use crate::holding::share;
 use crate::value_types::{Items, Pair, Pairs, Prop, Props, Value};
-use idb_base::NoMemory;
 use std::alloc::{AllocError, Global};
+use value_trees::NoMemory;
 
 /// An equal value, Functions included.
 pub fn copy_value(_alloc: Global, v: &Value) -> Result<Value, NoMemory>

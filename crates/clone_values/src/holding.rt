@@ -3,9 +3,9 @@ ghost use Rattle.std.specs.Prelude.{◌≡◌, ◌<◌, ◌≤◌, [], ◌∷◌
 ghost use Rattle.std.specs.List.{insert};
 ghost use Rattle.clone_values.specs.Held.{items_held};
 
-use idb_base::NoMemory;
 use std::alloc::{AllocError, Global};
 use std::sync::Arc;
+use value_trees::NoMemory;
 
 /// No items, or items that other lists may share.
 #[derive(Debug, Drop)]

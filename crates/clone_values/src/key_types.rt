@@ -1,14 +1,14 @@
 // Keys and their list. Contracts see a key as its plain key tree, and a list as the list of these.
 ghost use Rattle.std.specs.Prelude.{◌≡◌, ℕ, ◌≤◌, List, [], ◌∷◌, ◌++◌, length, map, slice_get, option_map, IfOk, IfSome, IfNone, OnOk, OnErr};
 ghost use Rattle.std.specs.Option.{option_copied};
-ghost use Rattle.idb_base.specs.Lists.{IsWithinLimit, FitsOneMore, StandsAt};
+ghost use Rattle.value_trees.specs.Lists.{IsWithinLimit, FitsOneMore, StandsAt};
 ghost use Rattle.clone_values.specs.View.{key_tree_of};
 
 use crate::holding::{Held, hold, push, share, slice};
 use crate::small_lists::{Bytes, Text};
-use idb_base::NoMemory;
 use std::alloc::{AllocError, Global};
 use std::marker::Model;
+use value_trees::NoMemory;
 
 /// A key (Indexed Database API 3.0, "Keys").
 #[cycle(key)]
@@ -32,7 +32,7 @@ pub struct Keys {
 impl Model for Keys {
     ghost use Rattle.std.specs.Prelude.{List, map};
     ghost use Rattle.std.specs.Coded.{coded_list};
-    ghost use Rattle.clone_values.specs.KeyTree.{KeyTree, key_code, keys_size, key_trees_of};
+    ghost use Rattle.value_trees.specs.KeyTree.{KeyTree, key_code, keys_size, key_trees_of};
 
     ghost Value = { List KeyTree };
 
@@ -43,7 +43,7 @@ impl Model for Keys {
 
     ghost view = { λ a. map key_tree_of (items_held a.keys) };
 
-    ghost use Rattle.idb_base.specs.Lists.{IsWithinLimit};
+    ghost use Rattle.value_trees.specs.Lists.{IsWithinLimit};
 
     ghost invariant = { λ a. IsWithinLimit (map key_tree_of (items_held a.keys)) };
 

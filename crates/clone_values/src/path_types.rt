@@ -2,8 +2,8 @@
 ghost use Rattle.std.specs.Prelude.{◌≡◌, IfOk};
 
 use crate::small_lists::{Text, Texts};
-use idb_base::NoMemory;
 use std::alloc::Global;
+use value_trees::NoMemory;
 
 /// A key path as a script writes it: one string, or a list of strings.
 #[derive(Debug, Drop)]

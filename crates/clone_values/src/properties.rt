@@ -2,20 +2,20 @@
 ghost use Rattle.std.specs.Prelude.{◌≡◌, ℕ, ◌<◌, ◌≤◌, true, List, [], length, map, slice_get, option_map, slice_set, vec_len, IfOk, IfErr, IfSome, IfNone, OnOk, OnErr, None, Some};
 ghost use Rattle.std.specs.List.{insert};
 ghost use Rattle.std.specs.Option.{option_copied};
-ghost use Rattle.idb_base.specs.Lists.{IsWithinLimit, FitsOneMore, StandsAt};
+ghost use Rattle.value_trees.specs.Lists.{IsWithinLimit, FitsOneMore, StandsAt};
 ghost use Rattle.clone_values.specs.Held.{items_held};
-ghost use Rattle.clone_values.specs.Names.{is_rising, names_of, set_member, set_members, get_member, HasNameAt};
-ghost use Rattle.clone_values.specs.Tree.{Tree};
+ghost use Rattle.value_trees.specs.Names.{is_rising, names_of, set_member, set_members, get_member, HasNameAt};
+ghost use Rattle.value_trees.specs.Tree.{Tree};
 ghost use Rattle.clone_values.specs.View.{tree_of, prop_of, named_value_of};
 
 use crate::holding::{Held, hold, insert_held, own, replace_held, slice};
 use crate::small_lists::Text;
 use crate::value_types::{Prop, Props, Value};
-use idb_base::NoMemory;
 use std::alloc::Global;
 use std::cmp::Ordering;
 use std::collections::BTreeMap;
 use std::sync::Arc;
+use value_trees::NoMemory;
 
 impl Props {
     /// The empty list; it takes no memory.

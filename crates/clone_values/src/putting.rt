@@ -1,14 +1,14 @@
 // Putting members into Sets and Maps: a repeated primitive keeps its first place.
 ghost use Rattle.std.specs.Prelude.{◌≡◌, ◌<◌, length, IsTrue, IfSome, OnOk, OnErr, IsOk};
 ghost use Rattle.std.specs.List.{list_any, position_from};
-ghost use Rattle.idb_base.specs.Lists.{FitsOneMore};
+ghost use Rattle.value_trees.specs.Lists.{FitsOneMore};
 ghost use Rattle.clone_values.specs.View.{tree_of};
-ghost use Rattle.clone_values.specs.Sameness.{is_primitive, repeats, put_once, put_pair};
+ghost use Rattle.value_trees.specs.Sameness.{is_primitive, repeats, put_once, put_pair};
 
 use crate::holding::{push, replace_held};
 use crate::sameness::is_same;
 use crate::value_types::{Items, Pair, Pairs, Value};
-use idb_base::NoMemory;
+use value_trees::NoMemory;
 
 impl Items {
     /// Puts a member into a Set: a primitive that is there already stays where it is, and no memory is asked for.

@@ -1,8 +1,8 @@
 // Whether two values are the same tree.
 ghost use Rattle.std.specs.Prelude.{◌≡◌, ◌↔◌, IsTrue};
-ghost use Rattle.clone_values.specs.Tree.{trees_of, members_of, pairs_of};
+ghost use Rattle.value_trees.specs.Tree.{trees_of, members_of, pairs_of};
 ghost use Rattle.clone_values.specs.View.{tree_of};
-ghost use Rattle.clone_values.specs.Sameness.{same_tree, same_trees, same_members, same_pairs};
+ghost use Rattle.value_trees.specs.Sameness.{same_tree, same_trees, same_members, same_pairs};
 
 use crate::value_types::{Items, Pairs, Props, Value};
 

@@ -6,15 +6,15 @@ ghost use Rattle.std.specs.Cmp.Lexicographic.{pointwise, slice_cmp, nat_list_eq_
 ghost use Rattle.std.specs.Option.{option_copied};
 ghost use Rattle.std.specs.Ordering.{nat_cmp};
 ghost use Rattle.std.specs.Str.{IsUtf8};
-ghost use Rattle.idb_base.specs.Lists.{IsWithinLimit, FitsOneMore, StandsAt};
+ghost use Rattle.value_trees.specs.Lists.{IsWithinLimit, FitsOneMore, StandsAt};
 ghost use Rattle.clone_values.specs.Held.{items_held};
 
 use crate::holding::{Held, hold, push, share, slice};
-use idb_base::{Listed, NoMemory};
 use std::alloc::{AllocError, Global};
 use std::cmp::Ordering;
 use std::marker::Model;
 use std::sync::Arc;
+use value_trees::{Listed, NoMemory};
 
 /// A list of numbers.
 pub type Numbers = Listed<u64>;
@@ -28,7 +28,7 @@ pub struct Text {
 impl Model for Text {
     ghost use Rattle.std.specs.Prelude.{ℕ, List, string_bytes};
     ghost use Rattle.std.specs.Arc.{arc_value};
-    ghost use Rattle.idb_base.specs.Lists.{IsWithinLimit};
+    ghost use Rattle.value_trees.specs.Lists.{IsWithinLimit};
 
     ghost Value = { List ℕ };
 
@@ -129,7 +129,7 @@ pub struct Texts {
 
 impl Model for Texts {
     ghost use Rattle.std.specs.Prelude.{ℕ, List};
-    ghost use Rattle.idb_base.specs.Lists.{IsWithinLimit};
+    ghost use Rattle.value_trees.specs.Lists.{IsWithinLimit};
 
     ghost Value = { List (List ℕ) };
 
@@ -210,7 +210,7 @@ pub struct Bytes {
 
 impl Model for Bytes {
     ghost use Rattle.std.specs.Prelude.{ℕ, List};
-    ghost use Rattle.idb_base.specs.Lists.{IsWithinLimit};
+    ghost use Rattle.value_trees.specs.Lists.{IsWithinLimit};
     ghost use Rattle.clone_values.specs.Held.{items_held};
 
     ghost Value = { List ℕ };

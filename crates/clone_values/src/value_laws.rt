@@ -1,12 +1,12 @@
 // What is built of well formed values is one.
 ghost use Rattle.std.specs.Prelude.{◌≡◌, ℕ, ◌<◌, true, false, List, [], ◌∷◌, ◌++◌};
-ghost use Rattle.idb_base.specs.Lists.{FitsOneMore};
-ghost use Rattle.idb_base.specs.declared.limits.TheConstants.{GREATEST_DEPTH};
-ghost use Rattle.clone_values.specs.Tree.{Tree, Trees, Members, array, object, map_object, set_object, trees_of, members_of, pairs_of};
-ghost use Rattle.clone_values.specs.Names.{set_member};
-ghost use Rattle.clone_values.specs.Sameness.{put_once, put_pair};
-ghost use Rattle.clone_values.specs.Values.{depth_of, holds_function, IsCloneable};
-ghost use Rattle.clone_values.specs.WellFormed.{is_text, is_array_name, IsValue};
+ghost use Rattle.value_trees.specs.Lists.{FitsOneMore};
+ghost use Rattle.value_trees.specs.TheConstants.{GREATEST_DEPTH};
+ghost use Rattle.value_trees.specs.Tree.{Tree, Trees, Members, array, object, map_object, set_object, trees_of, members_of, pairs_of};
+ghost use Rattle.value_trees.specs.Names.{set_member};
+ghost use Rattle.value_trees.specs.Sameness.{put_once, put_pair};
+ghost use Rattle.value_trees.specs.Values.{depth_of, holds_function, IsCloneable};
+ghost use Rattle.value_trees.specs.WellFormed.{is_text, is_array_name, IsValue};
 
 /// The laws of building: an item pushed, a member put into a Set, an entry put into a Map and a property set leave a
 /// well formed value well formed, where there is room for one more; and one that can be cloned stays so, where what is

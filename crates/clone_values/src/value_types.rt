@@ -1,14 +1,14 @@
 // Values and their lists. Contracts see an item as its plain tree, and a list as the list of these.
 ghost use Rattle.std.specs.Prelude.{◌≡◌, ◌^◌, ◌<◌, ◌≤◌, List, [], ◌∷◌, ◌++◌, length, map, slice_get, option_map, IfOk, IfSome, IfNone, OnOk, OnErr};
 ghost use Rattle.std.specs.Option.{option_copied};
-ghost use Rattle.idb_base.specs.Lists.{IsWithinLimit, FitsOneMore, StandsAt};
+ghost use Rattle.value_trees.specs.Lists.{IsWithinLimit, FitsOneMore, StandsAt};
 ghost use Rattle.clone_values.specs.View.{tree_of, pair_of};
 
 use crate::holding::{Held, hold, push, slice};
 use crate::small_lists::{Bytes, Text};
-use idb_base::NoMemory;
 use std::alloc::Global;
 use std::marker::Model;
+use value_trees::NoMemory;
 
 /// A value that scripts store and clone (HTML, StructuredSerializeForStorage, cut to whole numbers and acyclic values).
 #[cycle(value)]
@@ -57,7 +57,7 @@ pub struct Items {
 impl Model for Items {
     ghost use Rattle.std.specs.Prelude.{List, map};
     ghost use Rattle.std.specs.Coded.{coded_list};
-    ghost use Rattle.clone_values.specs.Tree.{Tree, tree_code, trees_size, trees_of};
+    ghost use Rattle.value_trees.specs.Tree.{Tree, tree_code, trees_size, trees_of};
 
     ghost Value = { List Tree };
 
@@ -68,7 +68,7 @@ impl Model for Items {
 
     ghost view = { λ a. map tree_of (items_held a.items) };
 
-    ghost use Rattle.idb_base.specs.Lists.{IsWithinLimit};
+    ghost use Rattle.value_trees.specs.Lists.{IsWithinLimit};
 
     ghost invariant = { λ a. IsWithinLimit (map tree_of (items_held a.items)) };
 
@@ -141,7 +141,7 @@ pub struct Props {
 impl Model for Props {
     ghost use Rattle.std.specs.Prelude.{◌≡◌, ℕ, List, map, true};
     ghost use Rattle.std.specs.Coded.{coded_ℕ, coded_list, coded×};
-    ghost use Rattle.clone_values.specs.Tree.{Tree, tree_code, members_size, members_of};
+    ghost use Rattle.value_trees.specs.Tree.{Tree, tree_code, members_size, members_of};
 
     ghost Value = { List (List ℕ × Tree) };
 
@@ -152,8 +152,8 @@ impl Model for Props {
 
     ghost view = { λ a. map prop_of (items_held a.props) };
 
-    ghost use Rattle.idb_base.specs.Lists.{IsWithinLimit};
-    ghost use Rattle.clone_values.specs.Names.{is_rising, names_of};
+    ghost use Rattle.value_trees.specs.Lists.{IsWithinLimit};
+    ghost use Rattle.value_trees.specs.Names.{is_rising, names_of};
 
     ghost invariant = { λ a. IsWithinLimit (map prop_of (items_held a.props))
         × (is_rising (names_of (map prop_of (items_held a.props))) ≡ true) };
@@ -177,7 +177,7 @@ pub struct Pairs {
 impl Model for Pairs {
     ghost use Rattle.std.specs.Prelude.{List, map};
     ghost use Rattle.std.specs.Coded.{coded_list, coded×};
-    ghost use Rattle.clone_values.specs.Tree.{Tree, tree_code, pairs_size, pairs_of};
+    ghost use Rattle.value_trees.specs.Tree.{Tree, tree_code, pairs_size, pairs_of};
 
     ghost Value = { List (Tree × Tree) };
 
@@ -188,7 +188,7 @@ impl Model for Pairs {
 
     ghost view = { λ a. map pair_of (items_held a.pairs) };
 
-    ghost use Rattle.idb_base.specs.Lists.{IsWithinLimit};
+    ghost use Rattle.value_trees.specs.Lists.{IsWithinLimit};
 
     ghost invariant = { λ a. IsWithinLimit (map pair_of (items_held a.pairs)) };
 

@@ -1,2 +1,4 @@
 pub mod StepLemmas
 pub mod Settling
+pub mod Steady
+pub mod Laws

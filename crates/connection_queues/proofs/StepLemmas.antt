@@ -183,10 +183,6 @@ pub taken_some : (s : QueueState) (client : ℕ) (es : List ClientEvent) (e : Cl
 taken_some s client [] e h = cc
 taken_some s client (x ∷ xs) e h = let same : x ≡ e = cc in ap (λ (y : ClientEvent). record { names = names_after_event y s.names; mails = at_first (is_mail client) taken_mail s.mails; is_faulted = s.is_faulted }) same
 
-pub taken_none : (s : QueueState) (client : ℕ) (es : List ClientEvent) → None ≡ slice_get es 0 → taken_event s client es ≡ s
-taken_none s client [] h = refl
-taken_none s client (x ∷ xs) h = cc
-
 pub handled_some : (s : QueueState) (client : ℕ) (ws : List ConnId) (who : ConnId) → Some who ≡ slice_get ws 0 → handled_first s client ws ≡ record { names = marked_at who change.Heard s.names; mails = at_first (is_mail client) (with_taken (drop 1 ws)) s.mails; is_faulted = s.is_faulted }
 handled_some s client [] who h = cc
 handled_some s client (x ∷ xs) who h = let same : x ≡ who = cc in ap (λ (y : ConnId). record { names = marked_at y change.Heard s.names; mails = at_first (is_mail client) (with_taken xs) s.mails; is_faulted = s.is_faulted }) same

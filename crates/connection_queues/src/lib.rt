@@ -7,9 +7,9 @@
 mod admitting;
 mod calls;
 mod faulting;
-mod laws;
+mod laws_of_queues;
 mod queues;
 mod steps;
 
-pub use laws::queue_laws;
+pub use laws_of_queues::queue_laws;
 pub use queues::Queues;

@@ -50,38 +50,12 @@ name_stays (Remove db store key) old new can left = ap (λ (s : Store). s.info.n
 name_stays (Clear db store) old new can left = ap (λ (s : Store). s.info.name) (sym (same_Some _ _ left))
 name_stays (Current db store current) old new can left = ap (λ (s : Store). s.info.name) (sym (same_Some _ _ left))
 
-finds_none : (delta : DeltaTree) → CanMake delta → (stores : Stores) (name : Name) → IsOf name (effect_of delta) → finite.get stores name ≡ None → stores_find (effect_of delta) stores ≡ false
-finds_none (Version db version) can stores name of none = absurd can
-finds_none (DropDatabase db) can stores name of none = absurd can
-finds_none (CreateStore db store path auto) can stores name of none = absurd can
-finds_none (DropStore db store) can stores name of none = absurd can
-finds_none (CreateIndex db store index path unique multi) can stores name of none = rw (of, none) refl
-finds_none (DropIndex db store index) can stores name of none = rw (of, none) refl
-finds_none (Put db store key value) can stores name of none = rw (of, none) refl
-finds_none (Remove db store key) can stores name of none = rw (of, none) refl
-finds_none (Clear db store) can stores name of none = rw (of, none) refl
-finds_none (Current db store current) can stores name of none = rw (of, none) refl
-
-pub lacks_it : (delta : DeltaTree) (stores : Stores) (name : Name) → CanMake delta → IsOf name (effect_of delta) → finite.get stores name ≡ None → stores_find (effect_of delta) stores ≡ false
-lacks_it delta stores name can of none = finds_none delta can stores name of none
-
 -- the name after a change that was made, or was not
 pub name_kept : (said : Result Unit ChangeError) (delta : DeltaTree) (old new : Store) → CanMake delta → OnOk said (left_of (effect_of delta) old ≡ Some new) → OnErr said (new ≡ old) → new.info.name ≡ old.info.name
 name_kept (Ok u) delta old new can left same = name_stays delta old new can left
 name_kept (Err e) delta old new can left same = ap (λ (s : Store). s.info.name) same
 
 -- ---- in the databases
-pub can_make : (delta : DeltaTree) → CanApply delta → is_on_content delta ≡ true → CanMake delta
-can_make (Version db version) can content = absurd cc
-can_make (DropDatabase db) can content = absurd cc
-can_make (CreateStore db store path auto) can content = absurd cc
-can_make (DropStore db store) can content = absurd cc
-can_make (CreateIndex db store index path unique multi) can content = can
-can_make (DropIndex db store index) can content = tt
-can_make (Put db store key value) can content = can
-can_make (Remove db store key) can content = tt
-can_make (Clear db store) can content = tt
-can_make (Current db store current) can content = can
 
 items_by : (effect : Effect) (items : Items) (db name : Name) (version : ℕ) (old new : Stores) → IsOf name effect → finite.get items db ≡ Some (database_with version old) → new ≡ stores_made effect old
     → finite.insert (finite.remove items db) db (database_with version new) ≡ changed_at items db (made effect)
@@ -95,22 +69,6 @@ pub items_are : (delta : DeltaTree) (items : Items) (db name : Name) (version : 
 items_are delta items db name version old new names there e =
     items_by (effect_of delta) items db name version old new names.on_store there e
     ∙ ap (λ n. changed_at items n (made (effect_of delta))) (sym names.in_database)
-
-find_by : (effect : Effect) (items : Items) (db name : Name) (version : ℕ) (old : Stores) → IsOf name effect → finite.get items db ≡ Some (database_with version old) → finds effect (finite.get items db) ≡ stores_find effect old
-find_by (OnDatabase test make) items db name version old of there = absurd of
-find_by (OnStore store test make) items db name version old of there = ap (finds (OnStore store test make)) there
-
-pub items_find : (delta : DeltaTree) (items : Items) (db name : Name) (version : ℕ) (old : Stores) → HasNames db name delta → finite.get items db ≡ Some (database_with version old) → applies items delta ≡ stores_find (effect_of delta) old
-items_find delta items db name version old names there =
-    ap (λ n. finds (effect_of delta) (finite.get items n)) names.in_database ∙ find_by (effect_of delta) items db name version old names.on_store there
-
-none_by : (effect : Effect) (name : Name) → IsOf name effect → finds effect None ≡ false
-none_by (OnDatabase test make) name of = absurd of
-none_by (OnStore store test make) name of = refl
-
-pub lacks_database : (delta : DeltaTree) (items : Items) (db name : Name) → HasNames db name delta → finite.get items db ≡ None → applies items delta ≡ false
-lacks_database delta items db name names none =
-    ap (λ n. finds (effect_of delta) (finite.get items n)) names.in_database ∙ ap (finds (effect_of delta)) none ∙ none_by (effect_of delta) name names.on_store
 
 there_by : (effect : Effect) (items : Items) (db name : Name) (version : ℕ) (old : Stores) → IsOf name effect → finite.get items db ≡ Some (database_with version old)
     → store_at (changed_at items db (made effect)) db name ≡ store_made effect old

@@ -21,23 +21,21 @@ use Rattle.name_queues.specs.declared.connections.Conn.{Conn}
 use Rattle.name_queues.specs.declared.names.Named.{Named}
 use Rattle.connection_queues.specs.Machine.{schema_where}
 use Rattle.idb_desk.specs.Databases.{database_under}
-use Rattle.idb_desk.specs.declared.stands.DrawnTx.{DrawnTx}
-use Rattle.idb_desk.specs.declared.stands.TxKind.{TxKind}
-use Rattle.idb_desk.specs.declared.stands.TxKind.TheVariants as kind
-use Rattle.idb_desk.specs.declared.stands.TxStage.TheVariants as stage
-use Rattle.idb_desk.specs.declared.steps.DeskStep.{DeskStep}
-use Rattle.idb_desk.specs.declared.steps.DeskStep.TheVariants as step
+use Rattle.desk_steps.specs.declared.stands.DrawnTx.{DrawnTx}
+use Rattle.desk_steps.specs.declared.stands.TxKind.{TxKind}
+use Rattle.desk_steps.specs.declared.stands.TxKind.TheVariants as kind
+use Rattle.desk_steps.specs.declared.stands.TxStage.TheVariants as stage
+use Rattle.desk_steps.specs.declared.steps.DeskStep.{DeskStep}
+use Rattle.desk_steps.specs.declared.steps.DeskStep.TheVariants as step
 use Rattle.idb_desk.specs.Desks.{DeskState, drawn_at, with_stage}
 use Rattle.idb_desk.specs.Refusals.{is_allowed, is_usable, is_finished_stage, is_committed, may_leave_where}
 use Rattle.idb_desk.specs.Steps.{after, after_all, AreAllowed}
-use Rattle.desk_facts.specs.Counts.{one_if, Whole, Upgrades, Deletes, kind_for, tally, runs_by, of_request, txs_of}
-use Rattle.desk_facts.specs.Shapes.{IsShaped, IsAlone, StandsBy, HasVersion}
+use Rattle.queue_facts.specs.Counts.{one_if, Whole, Upgrades, Deletes, kind_for, tally, runs_by, of_request, txs_of}
+use Rattle.queue_facts.specs.Shapes.{IsShaped, IsAlone, StandsBy, HasVersion}
 use Rattle.desk_facts.specs.Drawn.{whole_of_kind, plain_of_kind, one_whole, one_plain}
 use Rattle.desk_facts.specs.Orderly.{asked_at, IsOrderly}
 use Rattle.desk_facts.specs.Databases.{IsUnfinishedOf, is_whole_kind, names_the_same, changes_where, changes_database, is_finish_of, IsAloneIn, SeesUpgrade}
-use Rattle.desk_facts.proofs.Moves.{counts_itself, ties_itself}
-use Rattle.desk_facts.proofs.Ends.{alone_txs}
-use Rattle.desk_facts.proofs.Sums.{all_find, find_passes}
+use Rattle.queue_facts.proofs.Laws.{counts_itself, ties_itself, alone_txs, all_find, find_passes}
 use Rattle.desk_facts.proofs.Asks.{same_names, or_parts}
 use Rattle.desk_facts.proofs.Boards.{drawn_set}
 use Rattle.desk_facts.proofs.Orderly.{counts_on, idle_where, tally_part}

@@ -7,8 +7,8 @@ use Rattle.std.specs.List.{find, list_any}
 use Rattle.std.proofs.lemmas.Bool.{eq-eqb, ne_eqb, cases_eq}
 use Rattle.std.proofs.lemmas.Option.{none-some}
 use Rattle.name_queues.specs.declared.ids.ConnId.{ConnId}
-use Rattle.idb_desk.specs.declared.stands.DeskRequest.{DeskRequest}
-use Rattle.idb_desk.specs.declared.stands.Stand.TheVariants as stand
+use Rattle.desk_steps.specs.declared.stands.DeskRequest.{DeskRequest}
+use Rattle.desk_steps.specs.declared.stands.Stand.TheVariants as stand
 use Rattle.idb_desk.specs.Desks.{ClientStand, is_client, or_new_client, new_client, asks_of, with_desk_client, at_desk_client, request_in, request_at}
 use Rattle.idb_desk.specs.Steps.{asked_more}
 use Rattle.desk_facts.proofs.Asks.{any_found}

@@ -24,12 +24,11 @@ use Rattle.name_queues.specs.declared.names.Named.{Named}
 use Rattle.connection_queues.specs.Machine.{QueueState, after_ask, refused, enqueued, is_admitted, put_name, comes_before}
 use Rattle.std.specs.FinMap.Entries as entries
 use Rattle.name_queues.specs.Ids.{by_id_order}
-use Rattle.desk_facts.specs.Counts.{one_if, Whole, tally, one_ask, wait_count_of, runs_by, runs_where, of_request, held_of, txs_of, txs_where, stands_of, one_end, one_begin, one_told}
-use Rattle.desk_facts.specs.Shapes.{IsShaped, IsVersioned}
-use Rattle.desk_facts.specs.Queued.{IsAddressed, AreAddressed, waiting, running_by, running, held_txs, mailed, ending, beginning, telling, AreNamedApart, IsOwned, IsQueued}
-use Rattle.desk_facts.proofs.Moves.{tally_both, is_same, one_true}
+use Rattle.queue_facts.specs.Counts.{one_if, Whole, tally, one_ask, wait_count_of, runs_by, runs_where, of_request, held_of, txs_of, txs_where, stands_of, one_end, one_begin, one_told}
+use Rattle.queue_facts.specs.Shapes.{IsShaped, IsVersioned}
+use Rattle.queue_facts.specs.Queued.{IsAddressed, AreAddressed, waiting, running_by, running, held_txs, mailed, ending, beginning, telling, AreNamedApart, IsOwned, IsQueued}
+use Rattle.queue_facts.proofs.Laws.{tally_both, is_same, one_true, all_last, sent_addressed, tally_first, all_first, all_find, all_kept, apart_first, find_passes, sent_most, sent_just, box_sent}
 use Rattle.desk_facts.proofs.Calls.{tally_lost}
-use Rattle.desk_facts.proofs.Sums.{all_last, sent_addressed, tally_first, all_first, all_find, all_kept, apart_first, find_passes, sent_most, sent_just, box_sent}
 
 pub record Asked (asked : ConnId → Option (List ℕ)) (who : ConnId) (q r : QueueState) : Type 0 where
   pub once : (x : ConnId) → waiting x r.names + running x r.names + ending x r.mails ≤ waiting x q.names + running x q.names + ending x q.mails + one_if (is_id who x)

@@ -7,14 +7,14 @@ use Rattle.std.specs.List.{find}
 use Rattle.std.proofs.lemmas.Bool.{eqb-true}
 use Rattle.std.proofs.lemmas.Option.{none-some}
 use Rattle.name_queues.specs.declared.ids.ConnId.{ConnId}
-use Rattle.idb_desk.specs.declared.stands.DeskRequest.{DeskRequest}
-use Rattle.idb_desk.specs.declared.stands.DrawnTx.{DrawnTx}
-use Rattle.idb_desk.specs.declared.stands.Stand.{Stand}
-use Rattle.idb_desk.specs.declared.stands.TxStage.{TxStage}
+use Rattle.desk_steps.specs.declared.stands.DeskRequest.{DeskRequest}
+use Rattle.desk_steps.specs.declared.stands.DrawnTx.{DrawnTx}
+use Rattle.desk_steps.specs.declared.stands.Stand.{Stand}
+use Rattle.desk_steps.specs.declared.stands.TxStage.{TxStage}
 use Rattle.idb_desk.specs.Desks.{ClientStand, is_client, or_new_client, asks_of, at_desk_client, request_in, request_at, name_asked_by, stand_where, stand_of, stands_where, with_stand, stood, drawn_at, stages_where, with_stage}
 use Rattle.idb_desk.specs.Refusals.{is_given}
-use Rattle.desk_facts.specs.Counts.{tally}
-use Rattle.desk_facts.proofs.Moves.{tally_both}
+use Rattle.queue_facts.specs.Counts.{tally}
+use Rattle.queue_facts.proofs.Laws.{tally_both}
 
 -- ---- a client is changed
 client_first : (c y : ℕ) (f : ClientStand → ClientStand) (cs : List ClientStand) → ((x : ClientStand) → (f x).client ≡ x.client) → (find (is_client y) (at_desk_client c f cs) ≡ find (is_client y) cs) ⊎ ((y ≡ c) × (find (is_client y) (at_desk_client c f cs) ≡ option_map f (find (is_client y) cs)))

@@ -19,14 +19,11 @@ use Rattle.name_queues.specs.declared.events.ClientEvent.{ClientEvent}
 use Rattle.name_queues.specs.declared.events.ClientEvent.TheVariants as event
 use Rattle.name_queues.specs.declared.names.Named.{Named}
 use Rattle.connection_queues.specs.Machine.{QueueState, sent_where, marked_at, names_after_event, handled_first, lose_where, closed, tx_done, faulted_state}
-use Rattle.desk_facts.specs.Counts.{one_if, Whole, tally, one_end, one_begin, one_told, told_count_of, ends_of, begins_by}
-use Rattle.desk_facts.specs.Shapes.{IsShaped}
-use Rattle.desk_facts.specs.Queued.{IsAddressed, AreAddressed, waiting, running_by, running, held_txs, mailed, ending, beginning, telling, IsOwned, IsQueued}
+use Rattle.queue_facts.specs.Counts.{one_if, Whole, tally, one_end, one_begin, one_told, told_count_of, ends_of, begins_by}
+use Rattle.queue_facts.specs.Shapes.{IsShaped}
+use Rattle.queue_facts.specs.Queued.{IsAddressed, AreAddressed, waiting, running_by, running, held_txs, mailed, ending, beginning, telling, IsOwned, IsQueued}
 use Rattle.name_queues.specs.Names.{is_id}
-use Rattle.desk_facts.proofs.Moves.{tally_both}
-use Rattle.desk_facts.proofs.Changes.{Changes, no_less, not_over, closed_changes, tx_changes, marked_changes}
-use Rattle.desk_facts.proofs.Ends.{fault_changes}
-use Rattle.desk_facts.proofs.Sums.{all_left, sent_addressed, first_addressed, all_mapped, apart_mapped, sent_most, sent_just, all_told, box_kept, box_sent}
+use Rattle.queue_facts.proofs.Laws.{tally_both, Changes, no_less, not_over, closed_changes, tx_changes, marked_changes, fault_changes, all_left, sent_addressed, first_addressed, all_mapped, apart_mapped, sent_most, sent_just, all_told, box_kept, box_sent}
 use Rattle.desk_facts.proofs.States.{Steps, steps_on, moved_steps}
 
 module _ (asked : ConnId → Option (List ℕ)) where
@@ -77,15 +74,6 @@ tally_lost count p (x ∷ xs) h = let r = tally_lost count p xs h in elim (p x) 
   | true ↦ λ e. omega arith
   | false ↦ λ e. (let z = h x e in omega arith)
 ] refl
-
-change_ends : (x : ConnId) (e : ClientEvent) → is_change e ≡ true → one_end x e ≡ 0
-change_ends x (event.Upgrade conn old new) h = refl
-change_ends x (event.Blocked conn old new) h = refl
-change_ends x (event.Success conn version) h = cc
-change_ends x (event.Error conn name) h = cc
-change_ends x (event.VersionChange conn old new) h = refl
-change_ends x (event.Closed conn) h = refl
-change_ends x (event.DeleteReady conn old) h = refl
 
 change_begins : (test : ConnId → Whole → Bool) (e : ClientEvent) → is_change e ≡ true → one_begin test e ≡ 0
 change_begins test (event.Upgrade conn old new) h = cc

@@ -28,11 +28,10 @@ use Rattle.connection_queues.specs.Machine.{QueueState, after_ask, refused, enqu
 use Rattle.connection_queues.specs.Runs.{settled_name}
 use Rattle.idb_desk.specs.Databases.{database_in}
 use Rattle.idb_desk.specs.Queueing.{settled_at, settled_where}
-use Rattle.desk_facts.specs.Shapes.{IsShaped, HasVersion}
-use Rattle.desk_facts.specs.Queued.{AreNamedApart}
+use Rattle.queue_facts.specs.Shapes.{IsShaped, HasVersion}
+use Rattle.queue_facts.specs.Queued.{AreNamedApart}
 use Rattle.desk_facts.specs.Databases.{is_schema_named, AreOpenable}
-use Rattle.desk_facts.proofs.Moves.{settled_name_goes}
-use Rattle.desk_facts.proofs.Sums.{all_find, all_kept}
+use Rattle.queue_facts.proofs.Laws.{settled_name_goes, all_find, all_kept}
 use Rattle.desk_facts.proofs.Asks.{placeless, name_itself, same_names, none_any, all_put, apart_put}
 
 -- ---- one name is changed

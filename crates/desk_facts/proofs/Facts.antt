@@ -23,23 +23,21 @@ use Rattle.name_queues.specs.declared.events.ClientEvent.{ClientEvent}
 use Rattle.name_queues.specs.declared.names.Named.{Named}
 use Rattle.connection_queues.specs.Machine.{handled, unhandled, closed, tx_done, upgrade_done, delete_done, schema_of, schema_where, after_ask}
 use Rattle.idb_desk.specs.Databases.{database_in, database_under}
-use Rattle.idb_desk.specs.declared.stands.DrawnTx.{DrawnTx}
-use Rattle.idb_desk.specs.declared.stands.TxKind.{TxKind}
-use Rattle.idb_desk.specs.declared.stands.TxKind.TheVariants as kind
-use Rattle.idb_desk.specs.declared.stands.TxStage.{TxStage}
-use Rattle.idb_desk.specs.declared.steps.DeskStep.{DeskStep}
-use Rattle.idb_desk.specs.declared.steps.DeskStep.TheVariants as step
+use Rattle.desk_steps.specs.declared.stands.DrawnTx.{DrawnTx}
+use Rattle.desk_steps.specs.declared.stands.TxKind.{TxKind}
+use Rattle.desk_steps.specs.declared.stands.TxKind.TheVariants as kind
+use Rattle.desk_steps.specs.declared.stands.TxStage.{TxStage}
+use Rattle.desk_steps.specs.declared.steps.DeskStep.{DeskStep}
+use Rattle.desk_steps.specs.declared.steps.DeskStep.TheVariants as step
 use Rattle.idb_desk.specs.Desks.{DeskState, name_asked_by, drawn_at, changes_in}
 use Rattle.idb_desk.specs.Refusals.{refusal_of_ask, is_allowed, is_usable, is_finished_stage, is_committed, may_leave_where, fits_kept}
 use Rattle.idb_desk.specs.Steps.{after, after_take, event_for, after_created, handled_where, after_left, left_named}
-use Rattle.desk_facts.specs.Counts.{Upgrades, Deletes, runs_by, of_request, held_where, held_of, stands_of}
-use Rattle.desk_facts.specs.Shapes.{IsShaped, IsHeldBy, StandsBy}
-use Rattle.desk_facts.specs.Queued.{AreNamedApart, IsOwned}
+use Rattle.queue_facts.specs.Counts.{Upgrades, Deletes, runs_by, of_request, held_where, held_of, stands_of}
+use Rattle.queue_facts.specs.Shapes.{IsShaped, IsHeldBy, StandsBy}
+use Rattle.queue_facts.specs.Queued.{AreNamedApart, IsOwned}
 use Rattle.desk_facts.specs.Orderly.{asked_at, IsOrderly}
 use Rattle.desk_facts.specs.Databases.{IsUnfinishedOf, is_whole_kind, names_the_same, changes_where, changes_database, ShowsDatabase}
-use Rattle.desk_facts.proofs.Changes.{all_found}
-use Rattle.desk_facts.proofs.Ends.{upgraded_database, aborted_database, deleted_database, undeleted_database, upgrade_named, deletion_named, upgrade_changes}
-use Rattle.desk_facts.proofs.Sums.{all_find}
+use Rattle.queue_facts.proofs.Laws.{all_found, upgraded_database, aborted_database, deleted_database, undeleted_database, upgrade_named, deletion_named, upgrade_changes, all_find}
 use Rattle.desk_facts.proofs.Calls.{closed_steps, tx_steps, handled_steps}
 use Rattle.desk_facts.proofs.Asks.{same_names, name_itself}
 use Rattle.desk_facts.proofs.Orderly.{asked_steps, idle_where, tally_part}

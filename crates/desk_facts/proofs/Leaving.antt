@@ -18,25 +18,22 @@ use Rattle.name_queues.specs.declared.asks.Wants.TheVariants as wants
 use Rattle.name_queues.specs.declared.connections.Conn.{Conn}
 use Rattle.name_queues.specs.declared.names.Named.{Named}
 use Rattle.connection_queues.specs.Machine.{moved_at, tx_done, upgrade_done, delete_done}
-use Rattle.idb_desk.specs.declared.stands.DrawnTx.{DrawnTx}
-use Rattle.idb_desk.specs.declared.stands.Stand.TheVariants as stand
-use Rattle.idb_desk.specs.declared.stands.TxKind.{TxKind}
-use Rattle.idb_desk.specs.declared.stands.TxKind.TheVariants as kind
-use Rattle.idb_desk.specs.declared.stands.TxStage.{TxStage}
-use Rattle.idb_desk.specs.declared.stands.TxStage.TheVariants as stage
+use Rattle.desk_steps.specs.declared.stands.DrawnTx.{DrawnTx}
+use Rattle.desk_steps.specs.declared.stands.Stand.TheVariants as stand
+use Rattle.desk_steps.specs.declared.stands.TxKind.{TxKind}
+use Rattle.desk_steps.specs.declared.stands.TxKind.TheVariants as kind
+use Rattle.desk_steps.specs.declared.stands.TxStage.{TxStage}
+use Rattle.desk_steps.specs.declared.stands.TxStage.TheVariants as stage
 use Rattle.idb_desk.specs.Desks.{DeskState, name_asked_by, stand_of, stood, drawn_at}
 use Rattle.idb_desk.specs.Queueing.{settled_at}
 use Rattle.idb_desk.specs.Refusals.{is_given, is_upgrading, is_finished_stage, fits_kept, is_schema_for}
 use Rattle.idb_desk.specs.Steps.{left_named, clients_left}
-use Rattle.desk_facts.specs.Counts.{one_if, Whole, Upgrades, Deletes, kind_for, tally, runs_by, runs_where, of_request, held_where, txs_of, txs_where, stands_of}
-use Rattle.desk_facts.specs.Shapes.{IsShaped, IsVersioned, HasVersion, StandsBy}
-use Rattle.desk_facts.specs.Queued.{waiting, running_by, running, AreNamedApart, IsOwned}
+use Rattle.queue_facts.specs.Counts.{one_if, Whole, Upgrades, Deletes, kind_for, tally, runs_by, runs_where, of_request, held_where, txs_of, txs_where, stands_of}
+use Rattle.queue_facts.specs.Shapes.{IsShaped, IsVersioned, HasVersion, StandsBy}
+use Rattle.queue_facts.specs.Queued.{waiting, running_by, running, AreNamedApart, IsOwned}
 use Rattle.desk_facts.specs.Drawn.{whole_of_kind, one_whole, one_plain}
 use Rattle.desk_facts.specs.Orderly.{asked_at, IsOrderly}
-use Rattle.desk_facts.proofs.Moves.{counts_itself, is_same, is_itself, one_true}
-use Rattle.desk_facts.proofs.Changes.{Changes, no_less, not_over}
-use Rattle.desk_facts.proofs.Ends.{upgrade_changes, deletion_changes}
-use Rattle.desk_facts.proofs.Sums.{all_find, find_passes}
+use Rattle.queue_facts.proofs.Laws.{counts_itself, is_same, is_itself, one_true, Changes, no_less, not_over, upgrade_changes, deletion_changes, all_find, find_passes}
 use Rattle.desk_facts.proofs.States.{Steps, steps_on, settled_steps, moved_steps}
 use Rattle.desk_facts.proofs.Calls.{tx_steps}
 use Rattle.desk_facts.proofs.Asks.{name_itself, same_names}

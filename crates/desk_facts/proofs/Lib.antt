@@ -1,8 +1,3 @@
-mod Conns
-mod Moves
-mod Changes
-mod Ends
-mod Sums
 mod States
 mod Calls
 mod Asks
@@ -17,3 +12,4 @@ mod Staying
 mod Alone
 mod Runs
 pub mod Laws
+pub mod Names

@@ -20,26 +20,24 @@ use Rattle.name_queues.specs.declared.events.ClientEvent.{ClientEvent}
 use Rattle.name_queues.specs.declared.events.ClientEvent.TheVariants as event
 use Rattle.name_queues.specs.declared.names.Named.{Named}
 use Rattle.connection_queues.specs.Machine.{QueueState, taken_event, names_after_event, handled, unhandled, closed, tx_begun, faulted_state, after_ask}
-use Rattle.idb_desk.specs.declared.stands.DrawnTx.{DrawnTx}
-use Rattle.idb_desk.specs.declared.stands.DeskRequest.{DeskRequest}
-use Rattle.idb_desk.specs.declared.stands.Stand.{Stand}
-use Rattle.idb_desk.specs.declared.stands.Stand.TheVariants as stand
-use Rattle.idb_desk.specs.declared.stands.TxKind.{TxKind}
-use Rattle.idb_desk.specs.declared.stands.TxKind.TheVariants as kind
-use Rattle.idb_desk.specs.declared.stands.TxStage.{TxStage}
-use Rattle.idb_desk.specs.declared.stands.TxStage.TheVariants as stage
+use Rattle.desk_steps.specs.declared.stands.DrawnTx.{DrawnTx}
+use Rattle.desk_steps.specs.declared.stands.DeskRequest.{DeskRequest}
+use Rattle.desk_steps.specs.declared.stands.Stand.{Stand}
+use Rattle.desk_steps.specs.declared.stands.Stand.TheVariants as stand
+use Rattle.desk_steps.specs.declared.stands.TxKind.{TxKind}
+use Rattle.desk_steps.specs.declared.stands.TxKind.TheVariants as kind
+use Rattle.desk_steps.specs.declared.stands.TxStage.{TxStage}
+use Rattle.desk_steps.specs.declared.stands.TxStage.TheVariants as stage
 use Rattle.idb_desk.specs.Desks.{DeskState, DeskBoard, ClientStand, name_asked_by, request_at, stand_of, stand_where, stood, at_desk_client, asks_of, request_in, drawn_at, with_stage}
 use Rattle.idb_desk.specs.Queueing.{settled_at, settled_where}
 use Rattle.idb_desk.specs.Refusals.{is_given, is_open_conn, is_finished_stage}
 use Rattle.idb_desk.specs.Steps.{after_event, after_take, event_for, drawn_whole, with_clients, change_taken, changes_left, created_more, after_asked, handled_where, after_handled, after_closed, after_created, with_drawn_list}
-use Rattle.desk_facts.specs.Counts.{one_if, Whole, tally, wait_count_of, runs_by, runs_where, of_request, txs_of, stands_of, one_end, one_begin, one_told}
-use Rattle.desk_facts.specs.Shapes.{IsShaped, IsVersioned, StandsBy}
-use Rattle.desk_facts.specs.Queued.{waiting, running, held_txs, ending, telling, IsOwned, IsQueued}
+use Rattle.queue_facts.specs.Counts.{one_if, Whole, tally, wait_count_of, runs_by, runs_where, of_request, txs_of, stands_of, one_end, one_begin, one_told}
+use Rattle.queue_facts.specs.Shapes.{IsShaped, IsVersioned, StandsBy}
+use Rattle.queue_facts.specs.Queued.{waiting, running, held_txs, ending, telling, IsOwned, IsQueued}
 use Rattle.desk_facts.specs.Drawn.{whole_of_kind, plain_of_kind, unfinished_count, one_whole, one_plain, whole_by, plain_of}
 use Rattle.desk_facts.specs.Orderly.{asked_at, IsOrderly}
-use Rattle.desk_facts.proofs.Moves.{counts_itself, is_same, one_true}
-use Rattle.desk_facts.proofs.Changes.{no_less, not_over, begun_changes, one_more, alone_held}
-use Rattle.desk_facts.proofs.Sums.{tally_first, all_find}
+use Rattle.queue_facts.proofs.Laws.{counts_itself, is_same, one_true, no_less, not_over, begun_changes, one_more, alone_held, tally_first, all_find}
 use Rattle.desk_facts.proofs.States.{Steps, steps_on, steps_nowhere, settled_steps}
 use Rattle.desk_facts.proofs.Calls.{quiet_steps, taken_names, taken_count, taken_box, taken_addressed, handled_steps, closed_steps, fault_steps}
 use Rattle.desk_facts.proofs.Asks.{Asked, ask_steps}
@@ -181,9 +179,6 @@ pub take_orderly : (d : DeskState) (client : ℕ) → IsOrderly d → IsOrderly 
 take_orderly d client o = subst IsOrderly (sym (took_is d client (events_of d.queues.mails client) refl)) (took_orderly d client (events_of d.queues.mails client) refl o)
 
 -- ---- an open or a delete is asked
-tally_none : {A : Type 0} (count : A → ℕ) (xs : List A) → AllByRecursion (λ x. count x ≡ 0) xs → tally count xs ≡ 0
-tally_none count [] h = refl
-tally_none count (x ∷ xs) h = let p = tally_none count xs h.1 in let q = h.0 in omega arith
 
 all_zero : {A : Type 0} (P : A → Type 0) (count : A → ℕ) (xs : List A) → ((x : A) → P x → count x ≡ 0) → AllByRecursion P xs → tally count xs ≡ 0
 all_zero P count [] f h = refl

@@ -10,19 +10,18 @@ use Rattle.name_queues.specs.declared.ids.ConnId.{ConnId}
 use Rattle.name_queues.specs.declared.events.ClientEvent.{ClientEvent}
 use Rattle.name_queues.specs.declared.names.Named.{Named}
 use Rattle.idb_desk.specs.Databases.{database_under}
-use Rattle.idb_desk.specs.declared.stands.DrawnTx.{DrawnTx}
-use Rattle.idb_desk.specs.declared.steps.DeskStep.{DeskStep}
-use Rattle.idb_desk.specs.declared.steps.DeskStep.TheVariants as step
+use Rattle.desk_steps.specs.declared.stands.DrawnTx.{DrawnTx}
+use Rattle.desk_steps.specs.declared.steps.DeskStep.{DeskStep}
+use Rattle.desk_steps.specs.declared.steps.DeskStep.TheVariants as step
 use Rattle.idb_desk.specs.Desks.{DeskState}
 use Rattle.idb_desk.specs.Refusals.{is_allowed}
 use Rattle.idb_desk.specs.Steps.{after, after_all, new_desk, DeskRun, desk_run, AreAllowed, IsDeskRun}
-use Rattle.desk_facts.specs.Counts.{tally, one_told, held_of, held_where}
-use Rattle.desk_facts.specs.Queued.{AreAddressed, IsOwned, telling}
+use Rattle.queue_facts.specs.Counts.{tally, one_told, held_of, held_where}
+use Rattle.queue_facts.specs.Queued.{AreAddressed, IsOwned, telling}
 use Rattle.desk_facts.specs.Orderly.{asked_at, IsOrderly}
 use Rattle.desk_facts.specs.Databases.{AreOpenable, IsUnfinishedOf, is_finish_of}
 use Rattle.desk_facts.specs.Owning.{IsConnOf, AreEventsOf, HasOwn, IsAskedAs, AreAsked}
-use Rattle.desk_facts.proofs.Moves.{counts_itself}
-use Rattle.desk_facts.proofs.Sums.{all_kept}
+use Rattle.queue_facts.proofs.Laws.{counts_itself, all_kept}
 use Rattle.desk_facts.proofs.Orderly.{ask_noted}
 use Rattle.desk_facts.proofs.Stepping.{orderly_run}
 use Rattle.desk_facts.proofs.Staying.{asks_stay, ask_number}

@@ -12,12 +12,10 @@ use Rattle.name_queues.specs.declared.ids.ConnId.{ConnId}
 use Rattle.name_queues.specs.declared.names.Named.{Named}
 use Rattle.connection_queues.specs.Machine.{QueueState, moved_at, sent_where}
 use Rattle.connection_queues.specs.Runs.{settled_name}
-use Rattle.desk_facts.specs.Counts.{Whole, wait_count_of, runs_by, of_request, txs_of, one_end, one_begin, one_told, told_count_of}
-use Rattle.desk_facts.specs.Shapes.{IsShaped}
-use Rattle.desk_facts.specs.Queued.{waiting, running_by, running, held_txs, ending, beginning, telling, IsOwned, IsQueued}
-use Rattle.desk_facts.proofs.Moves.{settled_name_goes}
-use Rattle.desk_facts.proofs.Changes.{Changes, no_less, not_over, goes_changes}
-use Rattle.desk_facts.proofs.Sums.{tally_first, first_nowhere, all_first, all_find, sent_most, sent_just, all_told, box_sent, sent_addressed, apart_first}
+use Rattle.queue_facts.specs.Counts.{Whole, wait_count_of, runs_by, of_request, txs_of, one_end, one_begin, one_told, told_count_of}
+use Rattle.queue_facts.specs.Shapes.{IsShaped}
+use Rattle.queue_facts.specs.Queued.{waiting, running_by, running, held_txs, ending, beginning, telling, IsOwned, IsQueued}
+use Rattle.queue_facts.proofs.Laws.{settled_name_goes, Changes, no_less, not_over, goes_changes, tally_first, first_nowhere, all_first, all_find, sent_most, sent_just, all_told, box_sent, sent_addressed, apart_first}
 
 pub record Steps (asked : ConnId → Option (List ℕ)) (less : ConnId → ℕ) (over : (ConnId → Whole → Bool) → ℕ) (q r : QueueState) : Type 0 where
   pub once : (x : ConnId) → waiting x r.names + running x r.names + ending x r.mails ≤ waiting x q.names + running x q.names + ending x q.mails

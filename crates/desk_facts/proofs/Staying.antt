@@ -13,14 +13,14 @@ use Rattle.name_queues.specs.declared.ids.ConnId.{ConnId}
 use Rattle.name_queues.specs.declared.events.ClientEvent.{ClientEvent}
 use Rattle.name_queues.specs.declared.events.ClientEvent.TheVariants as event
 use Rattle.connection_queues.specs.Machine.{unhandled, schema_of}
-use Rattle.idb_desk.specs.declared.stands.DrawnTx.{DrawnTx}
-use Rattle.idb_desk.specs.declared.stands.Stand.TheVariants as stand
-use Rattle.idb_desk.specs.declared.stands.TxKind.{TxKind}
-use Rattle.idb_desk.specs.declared.stands.TxKind.TheVariants as kind
-use Rattle.idb_desk.specs.declared.stands.TxStage.{TxStage}
-use Rattle.idb_desk.specs.declared.stands.TxStage.TheVariants as stage
-use Rattle.idb_desk.specs.declared.steps.DeskStep.{DeskStep}
-use Rattle.idb_desk.specs.declared.steps.DeskStep.TheVariants as step
+use Rattle.desk_steps.specs.declared.stands.DrawnTx.{DrawnTx}
+use Rattle.desk_steps.specs.declared.stands.Stand.TheVariants as stand
+use Rattle.desk_steps.specs.declared.stands.TxKind.{TxKind}
+use Rattle.desk_steps.specs.declared.stands.TxKind.TheVariants as kind
+use Rattle.desk_steps.specs.declared.stands.TxStage.{TxStage}
+use Rattle.desk_steps.specs.declared.stands.TxStage.TheVariants as stage
+use Rattle.desk_steps.specs.declared.steps.DeskStep.{DeskStep}
+use Rattle.desk_steps.specs.declared.steps.DeskStep.TheVariants as step
 use Rattle.idb_desk.specs.Desks.{DeskState, DeskBoard, ClientStand, name_asked_by, request_in, asks_of, changes_in, at_desk_client, stood, stand_of, drawn_at, stages_where, with_stage}
 use Rattle.idb_desk.specs.Refusals.{refusal_of_ask, is_allowed, is_upgrading, is_finished_stage, is_committed}
 use Rattle.idb_desk.specs.Steps.{after, after_take, after_event, event_for, drawn_whole, change_taken, changes_left, created_more, after_created, clients_left, after_left}

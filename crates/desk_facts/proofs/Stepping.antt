@@ -18,21 +18,21 @@ use Rattle.name_queues.specs.declared.asks.Wants.{Wants}
 use Rattle.name_queues.specs.declared.asks.Wants.TheVariants as wants
 use Rattle.name_queues.specs.declared.names.Named.{Named}
 use Rattle.connection_queues.specs.Machine.{unhandled, schema_of, names_of_schemas, put_name}
-use Rattle.idb_desk.specs.declared.stands.DeskRequest.{DeskRequest}
-use Rattle.idb_desk.specs.declared.stands.DrawnTx.{DrawnTx}
-use Rattle.idb_desk.specs.declared.stands.TxStage.{TxStage}
-use Rattle.idb_desk.specs.declared.stands.TxStage.TheVariants as stage
-use Rattle.idb_desk.specs.declared.steps.DeskStep.{DeskStep}
-use Rattle.idb_desk.specs.declared.steps.DeskStep.TheVariants as step
+use Rattle.desk_steps.specs.declared.stands.DeskRequest.{DeskRequest}
+use Rattle.desk_steps.specs.declared.stands.DrawnTx.{DrawnTx}
+use Rattle.desk_steps.specs.declared.stands.TxStage.{TxStage}
+use Rattle.desk_steps.specs.declared.stands.TxStage.TheVariants as stage
+use Rattle.desk_steps.specs.declared.steps.DeskStep.{DeskStep}
+use Rattle.desk_steps.specs.declared.steps.DeskStep.TheVariants as step
 use Rattle.idb_desk.specs.Desks.{DeskState, name_asked_by, stand_of, drawn_at, changes_in}
 use Rattle.idb_desk.specs.Refusals.{has_version, refusal_of_ask, is_at_limit, refusal_of_create, is_usable, is_given, is_allowed, is_to_start, is_created_stage, is_finished_stage, is_committed, may_leave_where, fits_kept}
 use Rattle.idb_desk.specs.Steps.{after, after_all, after_left, left_named, new_desk, DeskRun, desk_run, AreAllowed, IsDeskRun}
-use Rattle.desk_facts.specs.Counts.{tally, wait_count_of, runs_by, of_request}
-use Rattle.desk_facts.specs.Shapes.{IsShaped, IsVersioned}
-use Rattle.desk_facts.specs.Queued.{AreNamedApart, IsOwned}
+use Rattle.queue_facts.specs.Counts.{tally, wait_count_of, runs_by, of_request}
+use Rattle.queue_facts.specs.Shapes.{IsShaped, IsVersioned}
+use Rattle.queue_facts.specs.Queued.{AreNamedApart, IsOwned}
 use Rattle.desk_facts.specs.Orderly.{asked_at, IsOrderly}
 use Rattle.desk_facts.specs.Databases.{is_schema_named, AreOpenable}
-use Rattle.desk_facts.proofs.Sums.{all_kept}
+use Rattle.queue_facts.proofs.Laws.{all_kept}
 use Rattle.desk_facts.proofs.Asks.{all_put, apart_put}
 use Rattle.desk_facts.proofs.Orderly.{IsOpenAt, open_conn, take_orderly, handled_orderly, closed_orderly, faulted_orderly, started_orderly, asked_orderly, created_orderly}
 use Rattle.desk_facts.proofs.Leaving.{left_orderly, left_asked}

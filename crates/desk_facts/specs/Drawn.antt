@@ -5,12 +5,12 @@
 use Rattle.std.specs.Prelude.{ℕ, Bool, List}
 use Rattle.name_queues.specs.Names.{is_id}
 use Rattle.name_queues.specs.declared.ids.ConnId.{ConnId}
-use Rattle.idb_desk.specs.declared.stands.DrawnTx.{DrawnTx}
-use Rattle.idb_desk.specs.declared.stands.TxKind.{TxKind}
-use Rattle.idb_desk.specs.declared.stands.TxKind.TheVariants as kind
-use Rattle.idb_desk.specs.declared.stands.TxStage.{TxStage}
-use Rattle.idb_desk.specs.declared.stands.TxStage.TheVariants as stage
-use Rattle.desk_facts.specs.Counts.{one_if, tally, Whole, Upgrades, Deletes}
+use Rattle.desk_steps.specs.declared.stands.DrawnTx.{DrawnTx}
+use Rattle.desk_steps.specs.declared.stands.TxKind.{TxKind}
+use Rattle.desk_steps.specs.declared.stands.TxKind.TheVariants as kind
+use Rattle.desk_steps.specs.declared.stands.TxStage.{TxStage}
+use Rattle.desk_steps.specs.declared.stands.TxStage.TheVariants as stage
+use Rattle.queue_facts.specs.Counts.{one_if, tally, Whole, Upgrades, Deletes}
 
 abbrev pub whole_of_kind : (ConnId → Whole → Bool) → ConnId → TxKind → ℕ
 whole_of_kind test who kind.Plain = 0

@@ -8,8 +8,8 @@ use Rattle.std.specs.Prelude.{◌≡◌, ◌≤◌, ℕ, ◌+◌, Bool, true, Li
 use Rattle.name_queues.specs.declared.ids.ConnId.{ConnId}
 use Rattle.idb_desk.specs.Desks.{DeskState, name_asked_by, stand_of}
 use Rattle.idb_desk.specs.Refusals.{is_given}
-use Rattle.desk_facts.specs.Counts.{Whole}
-use Rattle.desk_facts.specs.Queued.{waiting, running_by, running, held_txs, ending, beginning, IsQueued}
+use Rattle.queue_facts.specs.Counts.{Whole}
+use Rattle.queue_facts.specs.Queued.{waiting, running_by, running, held_txs, ending, beginning, IsQueued}
 use Rattle.desk_facts.specs.Drawn.{whole_by, plain_of}
 
 abbrev pub asked_at : DeskState → ConnId → Option (List ℕ)

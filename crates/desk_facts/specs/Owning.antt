@@ -9,10 +9,10 @@ use Rattle.name_queues.specs.Names.{name_of, holds}
 use Rattle.name_queues.specs.Mails.{Mail, conn_of}
 use Rattle.name_queues.specs.declared.ids.ConnId.{ConnId}
 use Rattle.name_queues.specs.declared.names.Named.{Named}
-use Rattle.idb_desk.specs.declared.steps.DeskStep.{DeskStep}
-use Rattle.idb_desk.specs.declared.steps.DeskStep.TheVariants as step
+use Rattle.desk_steps.specs.declared.steps.DeskStep.{DeskStep}
+use Rattle.desk_steps.specs.declared.steps.DeskStep.TheVariants as step
 use Rattle.idb_desk.specs.Desks.{DeskState}
-use Rattle.desk_facts.specs.Queued.{waiting, running, ending}
+use Rattle.queue_facts.specs.Queued.{waiting, running, ending}
 use Rattle.desk_facts.specs.Orderly.{asked_at}
 
 -- the connection is one of an open of this name

@@ -1,9 +1,9 @@
 // The laws of what a desk keeps.
 ghost use Rattle.std.specs.Prelude.{◌≡◌, ℕ, List, true};
 ghost use Rattle.idb_schema.specs.Schemas.{SchemaData};
-ghost use Rattle.idb_desk.specs.declared.stands.DrawnTx.{DrawnTx};
-ghost use Rattle.idb_desk.specs.declared.stands.TxKind.TheVariants as kind;
-ghost use Rattle.idb_desk.specs.declared.steps.DeskStep.{DeskStep};
+ghost use Rattle.desk_steps.specs.declared.stands.DrawnTx.{DrawnTx};
+ghost use Rattle.desk_steps.specs.declared.stands.TxKind.TheVariants as kind;
+ghost use Rattle.desk_steps.specs.declared.steps.DeskStep.{DeskStep};
 ghost use Rattle.idb_desk.specs.Desks.{DeskState};
 ghost use Rattle.idb_desk.specs.Refusals.{is_allowed};
 ghost use Rattle.idb_desk.specs.Steps.{after, new_desk, DeskRun, desk_run, IsDeskRun};

@@ -1,2 +1,4 @@
 pub mod Asked
 pub mod Replies
+pub use Rattle.tx_courses.specs.Changes
+pub use Rattle.tx_courses.specs.Courses

@@ -15,3 +15,4 @@ mod turns;
 pub use replies::Reply;
 pub use requests::run_request;
 pub use turns::run_turn;
+pub use tx_courses::{Course, CourseParts, run_change};

@@ -23,11 +23,6 @@ use Rattle.idb_cursors.specs.Seeking.{begins, ends, is_near}
 abbrev pub by_way : {K : Type 0} → Bool → (K → K → Ordering) → K → K → Ordering
 by_way forward R j k = if forward then R j k else ordering_reverse (R j k)
 
-greater_from : (o : Ordering) → ordering_reverse o ≡ Less → o ≡ Greater
-greater_from Less e = cc
-greater_from Equal e = cc
-greater_from Greater e = refl
-
 equal_from : (o : Ordering) → ordering_reverse o ≡ Equal → o ≡ Equal
 equal_from Less e = cc
 equal_from Equal e = refl

@@ -7,7 +7,7 @@ use Rattle.std.specs.Prelude.{◌≡◌, ℕ, ◌≤◌, nat_le, Bool, ◌&&◌,
 use Rattle.std.specs.List.{list_all}
 use Rattle.std.specs.FinMap as finite
 use Rattle.std.specs.Coded.{Coded, code_by, coded×, coded_ℕ}
-use Rattle.object_stores.specs.Store.{Store}
+use Rattle.item_changes.specs.Store.{Store}
 use Rattle.item_changes.specs.Items.{Name, Database, Items}
 use Rattle.idb_databases.specs.Named.{names_code}
 use Rattle.idb_databases.specs.Stores.{Stores, AreStores}

@@ -8,8 +8,8 @@ use Rattle.std.specs.FinMap as finite
 use Rattle.std.specs.FinMap.{FinMap}
 use Rattle.std.specs.List.{AllByRecursion}
 use Rattle.sorted_table.specs.Tables.{IsSorted}
-use Rattle.object_stores.specs.Store.{Store, Kept}
-use Rattle.object_stores.specs.IsStore.{IsStore}
+use Rattle.item_changes.specs.Store.{Store, Kept}
+use Rattle.item_changes.specs.IsStore.{IsStore}
 use Rattle.item_changes.specs.Items.{Name, name_cmp}
 use Rattle.idb_databases.specs.Named.{with_values}
 

@@ -9,7 +9,7 @@ use crate::named::{find_in, nth_in, put_in, take_from};
 use clone_values::Text;
 use idb_base::NoMemory;
 use index_tables::Tables;
-use object_stores::StoreVersion;
+use item_changes::StoreVersion;
 use std::alloc::Global;
 use std::marker::Model;
 

@@ -3,14 +3,14 @@ use Rattle.std.proofs.Common.{◌≡◌, ◌∙◌, ℕ, List, [], ◌∷◌, �
 use Rattle.idb_keys.specs.declared.names.Mode.{Mode}
 use Rattle.name_queues.specs.declared.ids.ConnId.{ConnId}
 use Rattle.scope_desk.specs.Starts.{created}
-use Rattle.idb_desk.specs.declared.stands.DeskPlace.{DeskPlace}
-use Rattle.idb_desk.specs.declared.stands.TxKind.{TxKind}
-use Rattle.idb_desk.specs.declared.stands.TxStage.TheVariants as stage
-use Rattle.idb_desk.specs.Desks.{DeskBoard, ClientStand, at_desk_client}
-use Rattle.idb_desk.specs.declared.stands.TxKind.TheVariants as kind
-use Rattle.idb_desk.specs.Numbers.{at_place, with_place, one_more_unfinished}
-use Rattle.idb_desk.specs.Placing.{placed_at}
-use Rattle.idb_desk.specs.Steps.{with_drawn, with_clients, created_on, created_more}
+use Rattle.desk_steps.specs.declared.stands.DeskPlace.{DeskPlace}
+use Rattle.desk_steps.specs.declared.stands.TxKind.{TxKind}
+use Rattle.desk_steps.specs.declared.stands.TxStage.TheVariants as stage
+use Rattle.desk_steps.specs.Desks.{DeskBoard, ClientStand, at_desk_client}
+use Rattle.desk_steps.specs.declared.stands.TxKind.TheVariants as kind
+use Rattle.desk_steps.specs.Numbers.{at_place, with_place, one_more_unfinished}
+use Rattle.desk_steps.specs.Placing.{placed_at}
+use Rattle.desk_steps.specs.Steps.{with_drawn, with_clients, created_on, created_more}
 
 -- ps is how the places were read
 pub drawn_there : (b : DeskBoard) (ps : List DeskPlace) (name : List ℕ) (who : ConnId) (k : TxKind) (items items' : List ℕ) (m : Mode) (i : ℕ) (p : DeskPlace)

@@ -1,2 +1,2 @@
 -- The lemmas that other crates may cite.
-pub use Rattle.idb_desk.proofs.Relaxing.{next_grows, durability_stays}
+pub use Rattle.desk_steps.proofs.Laws.{next_grows, durability_stays}

@@ -11,7 +11,7 @@ use Rattle.std.proofs.lemmas.List.Elements.{All-nil, All-cons, All-head, All-tai
 use Rattle.std.proofs.lemmas.List.Sorted.{ranks_by, sorted_far}
 use Rattle.name_queues.specs.Ids.{by_id_order, by_id_order_total}
 use Rattle.idb_calls.specs.declared.orders.Pending.{Pending}
-use Rattle.idb_desk.specs.Waiting.{pending_id, put_pending, sorted_pending}
+use Rattle.desk_steps.specs.Waiting.{pending_id, put_pending, sorted_pending}
 
 abbrev pub is_behind : Pending → Pending → Bool
 is_behind p q = is_lt (by_id_order (pending_id p) (pending_id q))

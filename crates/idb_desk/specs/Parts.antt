@@ -1,6 +1,6 @@
 -- The state of what a desk is made of.
 --     board_of, desk_state_of    the board, and the state, of these parts
-use Rattle.idb_desk.specs.Desks.{DeskBoard, DeskState}
+use Rattle.desk_steps.specs.Desks.{DeskBoard, DeskState}
 use Rattle.idb_desk.specs.declared.board.Board.{Board}
 use Rattle.idb_desk.specs.declared.board.Parts.{Parts}
 

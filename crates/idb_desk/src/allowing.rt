@@ -5,18 +5,17 @@ ghost use Rattle.std.specs.Option.{option_copied};
 ghost use Rattle.connection_queues.specs.Machine.{unhandled, schema_of};
 ghost use Rattle.name_queues.specs.Mails.{events_of};
 ghost use Rattle.name_queues.specs.Names.{conn_in};
-ghost use Rattle.idb_desk.specs.Desks.{changes_in, name_asked_by, asks_of};
+ghost use Rattle.desk_steps.specs.Desks.{changes_in, name_asked_by, asks_of};
 ghost use Rattle.idb_desk.specs.Parts.{desk_state_of};
-ghost use Rattle.idb_desk.specs.Refusals.{has_version, is_at_limit, refusal_of_ask, is_open_conn, is_usable, is_closable, has_stores, refusal_of_create, refusal_of_step, is_to_start, fits_kept, may_leave_where, has_some, is_allowed, is_committed, is_schema_for};
+ghost use Rattle.desk_steps.specs.Refusals.{has_version, is_at_limit, refusal_of_ask, is_open_conn, is_usable, is_closable, has_stores, refusal_of_create, refusal_of_step, is_to_start, fits_kept, may_leave_where, has_some, is_allowed, is_committed, is_schema_for};
 
 use crate::board::Parts;
 use crate::changes::has_unhandled;
 use crate::clients::{asked_by, client_place, created_by, request_of, stand_of};
 use crate::drawing::{drawn_at, is_go};
-use crate::stands::{DrawnTx, Stand, TxKind, TxStage};
-use crate::steps::DeskStep;
 use clone_values::{Text, Texts};
 use connection_queues::Queues;
+use desk_steps::{DeskStep, DrawnTx, Stand, TxKind, TxStage};
 use idb_calls::Outcome;
 use idb_keys::{ErrorName, Mode};
 use idb_schema::Schema;
@@ -214,7 +213,7 @@ fn may_leave(
     kept: &Option<Schema>,
 ) -> bool
     ensures { result ≡ may_leave_where (desk_state_of parts.now) client outcome.now kept.now
-        (Rattle.idb_desk.specs.Desks.drawn_at parts.now.board.drawn.items number) }
+        (Rattle.desk_steps.specs.Desks.drawn_at parts.now.board.drawn.items number) }
 {
     match drawn_at(parts.board.drawn.as_slice(), number) {
         Some(t) => {

@@ -1,7 +1,7 @@
 // What a desk is made of.
 use crate::clients::DeskClient;
-use crate::stands::{DeskPlace, DrawnTx};
 use connection_queues::Queues;
+use desk_steps::{DeskPlace, DrawnTx};
 use scope_desk::ScopeDesk;
 use std::alloc::Global;
 

@@ -2,7 +2,7 @@
 ghost use Rattle.std.specs.Prelude.{◌≡◌, drop, slice_get};
 ghost use Rattle.connection_queues.specs.Machine.{unhandled, is_taken_conn};
 ghost use Rattle.name_queues.specs.Names.{conn_in};
-ghost use Rattle.idb_desk.specs.Refusals.{has_some};
+ghost use Rattle.desk_steps.specs.Refusals.{has_some};
 
 use connection_queues::Queues;
 use name_queues::{Change, ConnId};

@@ -2,14 +2,14 @@
 ghost use Rattle.std.specs.Prelude.{◌≡◌, ◌<◌, ◌≤◌, ◌+◌, ◌^◌, ◌-◌, ℕ, List, [], ◌∷◌, ◌++◌, length, position, drop, slice_get, Some, None, OnOk, OnErr, IfOk, IfSome};
 ghost use Rattle.std.specs.Option.{option_copied};
 ghost use Rattle.name_queues.specs.Names.{at_first};
-ghost use Rattle.idb_desk.specs.Desks.{ClientStand, is_client, new_client, request_in, stands_where, request_at, with_stand, stood, stand_of, asks_of, creates_of, changes_in, at_desk_client, with_desk_client};
+ghost use Rattle.desk_steps.specs.Desks.{ClientStand, is_client, new_client, request_in, stands_where, request_at, with_stand, stood, stand_of, asks_of, creates_of, changes_in, at_desk_client, with_desk_client};
 ghost use Rattle.connection_queues.specs.Machine.{unhandled, after_ask};
-ghost use Rattle.idb_desk.specs.Steps.{asked_more, created_more, change_taken, changes_left};
+ghost use Rattle.desk_steps.specs.Steps.{asked_more, created_more, change_taken, changes_left};
 
 use crate::changes::next_unhandled;
-use crate::stands::{DeskRequest, Stand};
 use clone_values::Text;
 use connection_queues::Queues;
+use desk_steps::{DeskRequest, Stand};
 use idb_base::NoMemory;
 use name_queues::{ConnId, Wants};
 use std::alloc::Global;
@@ -26,7 +26,7 @@ pub(crate) struct DeskClient {
 }
 
 impl Model for DeskClient {
-    ghost use Rattle.idb_desk.specs.Desks.{ClientStand};
+    ghost use Rattle.desk_steps.specs.Desks.{ClientStand};
 
     ghost Value = { ClientStand };
 
@@ -191,7 +191,7 @@ pub(crate) fn request_of(clients: &[DeskClient], who: ConnId) -> Option<&DeskReq
 
 /// How an open or a delete stands.
 pub(crate) fn stand_of(clients: &[DeskClient], who: ConnId) -> Stand
-    ensures { result ≡ Rattle.idb_desk.specs.Desks.stand_of clients.now who }
+    ensures { result ≡ Rattle.desk_steps.specs.Desks.stand_of clients.now who }
 {
     match request_of(clients, who) {
         Some(request) => request.stand,

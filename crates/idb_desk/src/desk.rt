@@ -2,19 +2,19 @@
 ghost use Rattle.std.specs.Prelude.{◌≡◌, ◌<◌, ◌≤◌, ◌+◌, ◌^◌, ◌-◌, ℕ, Bool, true, false, [], ◌∷◌, ◌++◌, map, Some, None, slice_get, option_map, OnOk, OnErr, IfOk, IfSome};
 ghost use Rattle.std.specs.Option.{option_copied};
 ghost use Rattle.std.specs.Vec.{vec_len, vec_capacity};
-ghost use Rattle.idb_desk.specs.DeskRoom.{wants_memory, owed_steps};
-ghost use Rattle.idb_desk.specs.Handing.{kept_of};
+ghost use Rattle.desk_steps.specs.DeskRoom.{wants_memory, owed_steps};
+ghost use Rattle.desk_steps.specs.Handing.{kept_of};
 ghost use Rattle.idb_desk.specs.Parts.{board_of, desk_state_of};
-ghost use Rattle.idb_desk.specs.Refusals.{is_allowed, refusal_of_step, has_some};
-ghost use Rattle.idb_desk.specs.Steps.{after, answer_of, new_desk, DeskRun, desk_run, with_step, IsDeskRun, event_for};
+ghost use Rattle.desk_steps.specs.Refusals.{is_allowed, refusal_of_step, has_some};
+ghost use Rattle.desk_steps.specs.Steps.{after, answer_of, new_desk, DeskRun, desk_run, with_step, IsDeskRun, event_for};
 
 use crate::allowing::{is_allowed, refusal_of_step};
 use crate::board::{Board, Parts};
 use crate::durabilities::{note_relaxed, settle};
 use crate::making::make;
 use crate::places::places_of_schemas;
-use crate::steps::DeskStep;
 use connection_queues::Queues;
+use desk_steps::DeskStep;
 use idb_base::NoMemory;
 use idb_keys::ErrorName;
 use idb_schema::{Schema, Schemas};
@@ -38,10 +38,10 @@ pub struct Desk {
 impl Model for Desk {
     ghost use Rattle.std.specs.Prelude.{◌≡◌, ◌≤◌, ◌+◌};
     ghost use Rattle.std.specs.Vec.{vec_len, vec_capacity};
-    ghost use Rattle.idb_desk.specs.DeskRoom.{owed_steps};
-    ghost use Rattle.idb_desk.specs.Durabilities.{AreRelaxed};
+    ghost use Rattle.desk_steps.specs.DeskRoom.{owed_steps};
+    ghost use Rattle.desk_steps.specs.Durabilities.{AreRelaxed};
     ghost use Rattle.idb_desk.specs.Parts.{desk_state_of};
-    ghost use Rattle.idb_desk.specs.Steps.{DeskRun, desk_run, IsDeskRun};
+    ghost use Rattle.desk_steps.specs.Steps.{DeskRun, desk_run, IsDeskRun};
 
     ghost Value = { DeskRun };
 

@@ -3,19 +3,19 @@ ghost use Rattle.std.specs.Prelude.{◌≡◌, ◌<◌, ◌≤◌, ◌+◌, ◌^
 ghost use Rattle.std.specs.Option.{option_copied};
 ghost use Rattle.scope_desk.specs.Starts.{finished, may_start};
 ghost use Rattle.idb_keys.specs.declared.names.Mode.TheVariants.{VersionChange};
-ghost use Rattle.idb_desk.specs.Desks.{drawn_at, stages_where, with_stage, name_asked_by};
+ghost use Rattle.desk_steps.specs.Desks.{drawn_at, stages_where, with_stage, name_asked_by};
 ghost use Rattle.idb_desk.specs.Parts.{board_of};
-ghost use Rattle.idb_desk.specs.Placing.{placed_at};
-ghost use Rattle.idb_desk.specs.Refusals.{is_go};
+ghost use Rattle.desk_steps.specs.Placing.{placed_at};
+ghost use Rattle.desk_steps.specs.Refusals.{is_go};
 ghost use Rattle.name_queues.specs.declared.events.ClientEvent.TheVariants.{Upgrade};
-ghost use Rattle.idb_desk.specs.Numbers.{scope_items, place_of_name, with_place};
-ghost use Rattle.idb_desk.specs.Steps.{with_drawn, drawn_whole, after_event, created_on};
+ghost use Rattle.desk_steps.specs.Numbers.{scope_items, place_of_name, with_place};
+ghost use Rattle.desk_steps.specs.Steps.{with_drawn, drawn_whole, after_event, created_on};
 
 use crate::board::Board;
 use crate::clients::{count_create, created_by, request_of, set_stand, take_change};
 use crate::places::{place_to_draw, put_at, scope_items, whole_database};
-use crate::stands::{DeskPlace, DrawnTx, Stand, TxKind, TxStage};
 use clone_values::{Text, Texts};
+use desk_steps::{DeskPlace, DrawnTx, Stand, TxKind, TxStage};
 use idb_base::NoMemory;
 use idb_keys::Mode;
 use idb_schema::Schema;

@@ -1,9 +1,9 @@
 // Which transactions were created relaxed.
 ghost use Rattle.std.specs.Prelude.{◌≡◌, ℕ, List, true, false, [], ◌∷◌, ◌++◌, IfOk, OnErr};
-ghost use Rattle.idb_desk.specs.DeskRoom.{wants_memory};
-ghost use Rattle.idb_desk.specs.Durabilities.{relaxed_of, is_relaxed_in, AreRelaxed, IsAddedTo, IsTakenBack};
+ghost use Rattle.desk_steps.specs.DeskRoom.{wants_memory};
+ghost use Rattle.desk_steps.specs.Durabilities.{relaxed_of, is_relaxed_in, AreRelaxed, IsAddedTo, IsTakenBack};
 
-use crate::steps::DeskStep;
+use desk_steps::DeskStep;
 use idb_base::NoMemory;
 use idb_keys::Durability;
 use std::collections::BTreeSet;

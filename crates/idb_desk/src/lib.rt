@@ -11,16 +11,14 @@ mod clients;
 mod desk;
 mod drawing;
 mod durabilities;
-mod laws_of_desks;
 mod making;
 mod places;
 mod reads;
-mod stands;
-mod steps;
 mod waiting;
 
 pub use allowing::{GREATEST_ASK_COUNT, GREATEST_STORE_COUNT, GREATEST_VERSION};
 pub use desk::Desk;
-pub use laws_of_desks::{desk_laws, durability_laws, item_laws, quiet_laws};
-pub use stands::{DeskPlace, DeskRequest, DrawnTx, Stand, TxKind, TxStage};
-pub use steps::DeskStep;
+pub use desk_steps::{
+    DeskPlace, DeskRequest, DeskStep, DrawnTx, Stand, TxKind, TxStage, desk_laws, durability_laws,
+    item_laws, quiet_laws,
+};

@@ -3,24 +3,23 @@ ghost use Rattle.std.specs.Prelude.{◌≡◌, ◌<◌, ◌≤◌, ◌+◌, ◌^
 ghost use Rattle.std.specs.Option.{option_copied};
 ghost use Rattle.connection_queues.specs.Machine.{faulted_state, unhandled, schema_of, tx_begun, turned_queue, turn_of_name};
 ghost use Rattle.name_queues.specs.Names.{conn_in};
-ghost use Rattle.idb_desk.specs.DeskRoom.{wants_memory};
-ghost use Rattle.idb_desk.specs.Desks.{changes_in, name_asked_by, with_stage};
-ghost use Rattle.idb_desk.specs.Numbers.{at_place};
-ghost use Rattle.idb_desk.specs.declared.stands.TxStage.TheVariants.{Started};
-ghost use Rattle.idb_desk.specs.Handing.{kept_of};
+ghost use Rattle.desk_steps.specs.DeskRoom.{wants_memory};
+ghost use Rattle.desk_steps.specs.Desks.{changes_in, name_asked_by, with_stage};
+ghost use Rattle.desk_steps.specs.Numbers.{at_place};
+ghost use Rattle.desk_steps.specs.declared.stands.TxStage.TheVariants.{Started};
+ghost use Rattle.desk_steps.specs.Handing.{kept_of};
 ghost use Rattle.idb_desk.specs.Parts.{board_of, desk_state_of};
-ghost use Rattle.idb_desk.specs.Queueing.{settled_at, settled_where, is_moved};
-ghost use Rattle.idb_desk.specs.Steps.{after, after_asked, after_take, event_for, after_handled, after_closed, after_created, after_left, left_named, ended_in, queues_left, places_left, clients_left, place_left, answer_of};
+ghost use Rattle.desk_steps.specs.Queueing.{settled_at, settled_where, is_moved};
+ghost use Rattle.desk_steps.specs.Steps.{after, after_asked, after_take, event_for, after_handled, after_closed, after_created, after_left, left_named, ended_in, queues_left, places_left, clients_left, place_left, answer_of};
 
 use crate::allowing::is_committed;
 use crate::board::{Board, Parts};
 use crate::clients::{DeskClient, ask, handle_change, request_of, set_stand, stand_of};
 use crate::drawing::{draw_plain, drawn_at, finish, note_event, set_stage};
 use crate::places::leave_place;
-use crate::stands::{DeskPlace, DrawnTx, Stand, TxKind, TxStage};
-use crate::steps::DeskStep;
 use clone_values::{Text, Texts};
 use connection_queues::{Queues, queue_laws};
+use desk_steps::{DeskPlace, DeskStep, DrawnTx, Stand, TxKind, TxStage};
 use idb_base::NoMemory;
 use idb_keys::Mode;
 use idb_schema::Schema;
@@ -243,7 +242,7 @@ fn leave(parts: &mut Parts, number: u64, committed: bool, kept: Option<Schema>, 
 /// The transaction of this number is finished. It takes no memory.
 fn make_leave(parts: &mut Parts, number: u64, committed: bool, kept: Option<Schema>)
     ensures { desk_state_of parts.new ≡ after_left (desk_state_of parts.old) number committed kept
-        (Rattle.idb_desk.specs.Desks.drawn_at parts.old.board.drawn.items number) }
+        (Rattle.desk_steps.specs.Desks.drawn_at parts.old.board.drawn.items number) }
 {
     if let Some(t) = drawn_at(parts.board.drawn.as_slice(), number) {
         leave(parts, number, committed, kept, t);
@@ -272,7 +271,7 @@ fn make_start(parts: &mut Parts, number: u64)
 }
 
 /// What a step makes of the queues and the board; the event that it takes.
-#[tactic(auto, unfolding(crate::specs::Steps::after))]
+#[tactic(auto, unfolding(desk_steps::specs::Steps::after))]
 pub(crate) fn make(
     parts: &mut Parts,
     step: &DeskStep,

@@ -1,12 +1,12 @@
 // The places of the databases, and the numbers of their items.
 ghost use Rattle.std.specs.Prelude.{◌≡◌, ◌<◌, ◌≤◌, ◌+◌, ◌^◌, ◌-◌, ◌*◌, ℕ, [], ◌∷◌, ◌++◌, map, length, position, Some, None, OnOk, OnErr, IfOk, IfSome};
 ghost use Rattle.std.specs.Vec.{vec_len, vec_capacity};
-ghost use Rattle.idb_desk.specs.Numbers.{is_placed_name, is_free_place, with_place, at_place, new_place, place_of_name, one_more_unfinished, whole_database, numbers_from, store_item, scope_items, places_of_schemas};
-ghost use Rattle.idb_desk.specs.Placing.{placed_at};
-ghost use Rattle.idb_desk.specs.Steps.{place_left};
+ghost use Rattle.desk_steps.specs.Numbers.{is_placed_name, is_free_place, with_place, at_place, new_place, place_of_name, one_more_unfinished, whole_database, numbers_from, store_item, scope_items, places_of_schemas};
+ghost use Rattle.desk_steps.specs.Placing.{placed_at};
+ghost use Rattle.desk_steps.specs.Steps.{place_left};
 
-use crate::stands::{DeskPlace, TxKind};
 use clone_values::{Text, Texts};
+use desk_steps::{DeskPlace, TxKind};
 use idb_base::NoMemory;
 use idb_schema::{Schema, Schemas};
 use std::alloc::Global;
@@ -147,7 +147,7 @@ fn numbers_from(alloc: Global, count: u16, first: u16) -> Result<Vec<u16>, NoMem
 }
 
 /// The items of a database.
-#[tactic(auto, unfolding(crate::specs::Numbers::whole_database))]
+#[tactic(auto, unfolding(desk_steps::specs::Numbers::whole_database))]
 pub(crate) fn whole_database(alloc: Global, place: usize) -> Result<Vec<u16>, NoMemory>
     ensures { IfOk result (λ items. items.items ≡ whole_database place) }
 {

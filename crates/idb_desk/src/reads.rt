@@ -6,19 +6,18 @@ ghost use Rattle.scope_desk.specs.Starts.{may_start, IsUnfinished, is_numbered};
 ghost use Rattle.std.specs.List.{list_any};
 ghost use Rattle.connection_queues.specs.Machine.{schema_of};
 ghost use Rattle.name_queues.specs.Mails.{events_of};
-ghost use Rattle.idb_desk.specs.Databases.{database_in, database_under};
-ghost use Rattle.idb_desk.specs.Desks.{drawn_at, asks_of, request_at};
-ghost use Rattle.idb_desk.specs.Durabilities.{durability_drawn};
-ghost use Rattle.idb_desk.specs.Refusals.{has_some};
-ghost use Rattle.idb_desk.specs.Steps.{desk_run, event_for};
-ghost use Rattle.idb_desk.specs.Tokens.{token_of};
-ghost use Rattle.idb_desk.specs.Waiting.{pending_of};
+ghost use Rattle.desk_steps.specs.Databases.{database_in, database_under};
+ghost use Rattle.desk_steps.specs.Desks.{drawn_at, asks_of, request_at};
+ghost use Rattle.desk_steps.specs.Durabilities.{durability_drawn};
+ghost use Rattle.desk_steps.specs.Refusals.{has_some};
+ghost use Rattle.desk_steps.specs.Steps.{desk_run, event_for};
+ghost use Rattle.desk_steps.specs.Tokens.{token_of};
+ghost use Rattle.desk_steps.specs.Waiting.{pending_of};
 
 use crate::clients::{asked_by, request_of};
 use crate::desk::Desk;
-use crate::stands::{DeskRequest, DrawnTx};
-use crate::steps::DeskStep;
 use clone_values::Text;
+use desk_steps::{DeskRequest, DeskStep, DrawnTx};
 use idb_base::NoMemory;
 use idb_calls::{PendingLines, Tokens};
 use idb_keys::Durability;
@@ -57,7 +56,7 @@ impl Desk {
     }
 
     /// The opens and deletes that aren't answered, by client and request, as a report lists them.
-    #[tactic(auto, unfolding(crate::specs::Waiting::pending_of))]
+    #[tactic(auto, unfolding(desk_steps::specs::Waiting::pending_of))]
     pub fn pending(&self) -> Result<PendingLines, NoMemory>
         ensures { IfOk result (λ lines. lines ≡ pending_of (desk_run self.now)) }
     {

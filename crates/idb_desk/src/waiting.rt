@@ -1,10 +1,10 @@
 // The steps as a report lists them, and the opens and deletes that aren't answered.
 ghost use Rattle.std.specs.Prelude.{◌≡◌, ◌<◌, ◌≤◌, ℕ, Bool, true, false, [], ◌∷◌, ◌++◌, map, drop, length, OnOk, OnErr, IfOk, Some, None};
 ghost use Rattle.std.specs.List.{flat_map};
-ghost use Rattle.idb_desk.specs.Tokens.{token_of};
-ghost use Rattle.idb_desk.specs.Waiting.{pending_on, front_waits, queue_pending, pending_of_name, sorted_pending};
+ghost use Rattle.desk_steps.specs.Tokens.{token_of};
+ghost use Rattle.desk_steps.specs.Waiting.{pending_on, front_waits, queue_pending, pending_of_name, sorted_pending};
 
-use crate::steps::DeskStep;
+use desk_steps::DeskStep;
 use idb_base::NoMemory;
 use idb_calls::{Pending, PendingLines, Tokens};
 use name_queues::{Ask, ConnId, Named, Traffic};

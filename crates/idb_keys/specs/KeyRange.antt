@@ -8,7 +8,7 @@ use Rattle.std.specs.Prelude.{◌≡◌, Bool, true, false, not, ◌&&◌, ◌�
 use Rattle.std.specs.Coded.{Coded, code_by, coded×, coded_bool, coded_option}
 use Rattle.std.specs.declared.cmp.Ordering.{Ordering}
 use Rattle.std.specs.declared.cmp.Ordering.TheVariants.{Less, Equal, Greater}
-use Rattle.clone_values.specs.KeyTree.{KeyTree, key_code}
+use Rattle.key_order.specs.KeyTree.{KeyTree, key_code}
 use Rattle.key_order.specs.KeyOrder.{key_cmp, IsBelow}
 
 -- a bound: a key, and whether the bound is open, so that its own key is left out

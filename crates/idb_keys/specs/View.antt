@@ -1,8 +1,8 @@
 -- What contracts see of a range's fields.
 use Rattle.std.specs.Prelude.{Bool, Option, option_map}
 use denote.Ref.{Bor}
-use Rattle.clone_values.specs.declared.key_types.Key.{Key}
-use Rattle.clone_values.specs.View.{key_tree_of}
+use Rattle.key_order.specs.Key.{Key}
+use Rattle.key_order.specs.View.{key_tree_of}
 use Rattle.idb_keys.specs.declared.ranges.End.{End}
 use Rattle.idb_keys.specs.KeyRange.{Bound, Range, bound_at}
 

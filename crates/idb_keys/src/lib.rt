@@ -7,5 +7,6 @@
 mod names;
 mod ranges;
 
+pub use key_order::compare;
 pub use names::{Direction, Durability, ErrorName, Mode, Over};
 pub use ranges::{KeyRange, RangeError, bound_laws, key_range_laws};

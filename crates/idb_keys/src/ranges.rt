@@ -1,14 +1,13 @@
 // Key ranges (Indexed Database API 3.0, "Key range").
 ghost use Rattle.std.specs.Prelude.{◌≡◌, ◌↔◌, Bool, false, option_map, IsTrue, IfOk, IsErrOf, Option};
-ghost use Rattle.clone_values.specs.KeyTree.{KeyTree};
+ghost use Rattle.key_order.specs.KeyTree.{KeyTree};
 ghost use Rattle.key_order.specs.KeyOrder.{IsBelow};
-ghost use Rattle.clone_values.specs.View.{key_tree_of};
+ghost use Rattle.key_order.specs.View.{key_tree_of};
 ghost use Rattle.idb_keys.specs.KeyRange.{Bound, Range, bound_at, range_of_one, range_from, range_to, range_between, every_key, MeetsLower, MeetsUpper, IsInRange, BoundsExclude, IsEmptyRange, IsRange, admits, meets_lower, meets_upper, includes};
 ghost use Rattle.idb_keys.specs.View.{bound_of, range_of, bound_shown};
 
-use clone_values::Key;
 use idb_base::NoMemory;
-use key_order::{compare, key_order_laws};
+use key_order::{Key, compare, key_order_laws};
 use std::alloc::Global;
 use std::cmp::Ordering;
 use std::marker::Model;

@@ -10,8 +10,8 @@ use Rattle.std.specs.List.{list_any}
 use Rattle.std.proofs.lemmas.Option.{slice_get_within}
 use Rattle.clone_values.specs.KeyTree.{KeyTree}
 use Rattle.std.specs.FinMap as finite
-use Rattle.key_order.specs.KeyOrder.{key_cmp}
-use Rattle.key_order.proofs.Laws.{key_cmp_total, key_cmp_same}
+use Rattle.idb_keys.specs.KeyOrder.{key_cmp}
+use Rattle.idb_keys.proofs.Laws.{key_cmp_total, key_cmp_same}
 use Rattle.idb_keys.specs.KeyRange.{Bound, bound_at, admits}
 use Rattle.index_tables.specs.Rows.{RowTree, RowSet, row_meets, rows_of}
 use Rattle.index_tables.specs.Halves.{IsSplitAt}

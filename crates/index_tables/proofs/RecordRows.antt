@@ -15,8 +15,8 @@ use Rattle.std.specs.FinMap.{find, is_sorted, entries, entries_sorted, get, get-
 use Rattle.std.specs.FinMap.Entries.{below_all}
 use Rattle.clone_values.specs.Tree.{Tree}
 use Rattle.clone_values.specs.KeyTree.{KeyTree}
-use Rattle.key_order.specs.KeyOrder.{key_cmp}
-use Rattle.key_order.proofs.Laws.{key_cmp_total, key_cmp_same}
+use Rattle.idb_keys.specs.KeyOrder.{key_cmp}
+use Rattle.idb_keys.proofs.Laws.{key_cmp_total, key_cmp_same}
 use Rattle.idb_schema.specs.declared.definitions.IndexInfo.{IndexInfo}
 use Rattle.index_tables.specs.Rows.{RowTree, is_row, among, has_row, no_rows, AreNew, ArePresent, with_rows, without_rows}
 use Rattle.sorted_table.proofs.Laws.{is_less, first, second}

@@ -16,8 +16,8 @@ use Rattle.std.specs.Cmp.{Equal-is}
 use Rattle.std.proofs.lemmas.Cmp.{tied_itself}
 use Rattle.std.specs.FinMap as finite
 use Rattle.clone_values.specs.KeyTree.{KeyTree}
-use Rattle.key_order.specs.KeyOrder.{key_cmp}
-use Rattle.key_order.proofs.Laws.{key_cmp_same, then_equal}
+use Rattle.idb_keys.specs.KeyOrder.{key_cmp}
+use Rattle.idb_keys.proofs.Laws.{key_cmp_same, then_equal}
 use Rattle.sorted_table.proofs.Laws.{is_less, first, second}
 use Rattle.index_tables.specs.Rows.{RowTree, RowSet, row_cmp, is_row, no_rows, has_row, with_row, without_row, rows_of, count_of, has_key, among, AreNew, ArePresent, with_rows, without_rows}
 use Rattle.index_tables.specs.Orders.{row_cmp_total, row_cmp_same}

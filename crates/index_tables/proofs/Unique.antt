@@ -17,8 +17,8 @@ use Rattle.std.specs.FinMap.{is_sorted, entries, entries_sorted, get, insert, ge
 use Rattle.std.specs.FinMap.Entries.{below_all}
 use Rattle.clone_values.specs.Tree.{Tree}
 use Rattle.clone_values.specs.KeyTree.{KeyTree}
-use Rattle.key_order.specs.KeyOrder.{key_cmp}
-use Rattle.key_order.proofs.Laws.{key_cmp_total, key_cmp_same, then_equal}
+use Rattle.idb_keys.specs.KeyOrder.{key_cmp}
+use Rattle.idb_keys.proofs.Laws.{key_cmp_total, key_cmp_same, then_equal}
 use Rattle.idb_schema.specs.declared.definitions.IndexInfo.{IndexInfo}
 use Rattle.index_tables.specs.Rows.{RowTree, RowSet, row_cmp, is_row, among, has_row, rows_of}
 use Rattle.sorted_table.proofs.Laws.{swapped_less, swapped_greater}

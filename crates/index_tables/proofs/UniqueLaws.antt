@@ -5,8 +5,8 @@ use Rattle.std.proofs.lemmas.Bool.{false≢true}
 use Rattle.std.specs.Ordering.{is_eq}
 use Rattle.std.specs.FinMap.{get, remove, empty, get-remove, get-empty}
 use Rattle.clone_values.specs.KeyTree.{KeyTree}
-use Rattle.key_order.specs.KeyOrder.{key_cmp}
-use Rattle.key_order.proofs.Laws.{key_cmp_total}
+use Rattle.idb_keys.specs.KeyOrder.{key_cmp}
+use Rattle.idb_keys.proofs.Laws.{key_cmp_total}
 use Rattle.idb_schema.specs.declared.definitions.IndexInfo.{IndexInfo}
 use Rattle.index_tables.specs.Rows.{has_row, rows_of}
 use Rattle.index_tables.specs.RecordRows.{Records, gives_key, index_rows}

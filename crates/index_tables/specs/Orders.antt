@@ -10,8 +10,8 @@ use Rattle.std.specs.Ordering.{ordering_then}
 use Rattle.std.specs.Cmp.{IsTotalOrder}
 use Rattle.std.specs.FinMap.{IsAntisymmetric}
 use Rattle.std.proofs.lemmas.Cmp.{on_total, then_total}
-use Rattle.key_order.specs.KeyOrder.{key_cmp}
-use Rattle.key_order.proofs.Laws.{key_cmp_total, key_cmp_same, then_equal}
+use Rattle.idb_keys.specs.KeyOrder.{key_cmp}
+use Rattle.idb_keys.proofs.Laws.{key_cmp_total, key_cmp_same, then_equal}
 use Rattle.clone_values.specs.declared.key_types.Key.{Key}
 use Rattle.clone_values.specs.View.{key_tree_of}
 use Rattle.idb_keys.specs.KeyRange.{admits}

@@ -10,7 +10,7 @@ use Rattle.std.specs.Ordering.{is_eq}
 use Rattle.std.specs.FinMap.{FinMap, entries}
 use Rattle.clone_values.specs.Tree.{Tree}
 use Rattle.clone_values.specs.KeyTree.{KeyTree}
-use Rattle.key_order.specs.KeyOrder.{key_cmp}
+use Rattle.idb_keys.specs.KeyOrder.{key_cmp}
 use Rattle.key_paths.specs.Evaluation.{Extract, one, many, invalid, failure, extracted}
 use Rattle.idb_schema.specs.declared.definitions.IndexInfo.{IndexInfo}
 use Rattle.index_tables.specs.Rows.{RowTree, RowSet, no_rows, with_rows}

@@ -16,7 +16,7 @@ use Rattle.std.specs.Ordering.{ordering_then, eq_by_cmp}
 use Rattle.std.specs.FinMap as finite
 use Rattle.std.specs.FinSet as set
 use Rattle.clone_values.specs.KeyTree.{KeyTree, key_code}
-use Rattle.key_order.specs.KeyOrder.{key_cmp}
+use Rattle.idb_keys.specs.KeyOrder.{key_cmp}
 use Rattle.idb_keys.specs.KeyRange.{Bound, meets_lower}
 
 -- an index key and a primary key

@@ -9,7 +9,7 @@ use Rattle.std.specs.FinMap.{get}
 use Rattle.std.specs.declared.cmp.Ordering.TheVariants.{Less}
 use Rattle.std.specs.Ordering.{is_eq}
 use Rattle.clone_values.specs.KeyTree.{KeyTree}
-use Rattle.key_order.specs.KeyOrder.{key_cmp}
+use Rattle.idb_keys.specs.KeyOrder.{key_cmp}
 use Rattle.idb_schema.specs.declared.definitions.IndexInfo.{IndexInfo}
 use Rattle.index_tables.specs.RecordRows.{Records, index_rows, gives_key}
 use Rattle.index_tables.specs.Rows.{rows_of}

@@ -7,7 +7,7 @@ ghost use Rattle.index_tables.specs.Orders.{by_row_order, by_row_order_total, by
 
 use clone_values::Key;
 use idb_base::NoMemory;
-use key_order::compare;
+use idb_keys::compare;
 use sorted_table::Ordered;
 use std::alloc::{AllocError, Global};
 use std::cmp::Ordering;

@@ -11,7 +11,7 @@ ghost use Rattle.sorted_table.specs.Orders.{abbreviated_key};
 
 use crate::rows::Row;
 use clone_values::{Key, Keys};
-use key_order::compare;
+use idb_keys::compare;
 use sorted_table::{Cut, Ordered, OrderedTable, Steps, find_place};
 use std::cmp::Ordering;
 use std::marker::Brand;

@@ -22,12 +22,11 @@ use Rattle.index_tables.specs.Orders.{row_cmp_total}
 use Rattle.index_tables.proofs.Laws.{has_row_among}
 use Rattle.index_tables.specs.RecordRows.{Records, is_one_of, index_keys, rows_of_record, index_rows}
 use Rattle.index_tables.specs.Unique.{first_repeated, broken_key, is_broken}
-use Rattle.indexed_records.specs.Contents.{rows_in_indexes}
-use Rattle.indexed_records.specs.Matches.{InStep}
-use Rattle.indexed_records.specs.Clashes.{is_other, has_other, clash_in, clash_at, clash_any, AreUnique}
+use Rattle.store_contents.specs.Contents.{rows_in_indexes}
+use Rattle.store_contents.specs.Matches.{InStep}
+use Rattle.store_contents.specs.Clashes.{is_other, has_other, clash_in, clash_at, clash_any, AreUnique}
 use Rattle.index_tables.proofs.Laws.{or_nothing}
-use Rattle.indexed_records.proofs.Matching.{none_left}
-use Rattle.indexed_records.proofs.Members.{none_shown}
+use Rattle.store_contents.proofs.Laws.{none_left, none_shown}
 use Rattle.index_tables.proofs.Laws.{keys_rise, keys_rise_from, rows_rise_in, is_less, same_primary, stays_unique, is_repeated}
 
 -- ---- one look by halving

@@ -1,11 +1,3 @@
-pub mod ByKey
-pub mod Members
-pub mod Matching
-pub mod Changes
-pub mod Walks
-pub mod Lists
 pub mod ClashLaws
 pub mod NewIndex
-pub mod RecordPlaces
-pub mod Sameness
 pub mod Laws

@@ -18,10 +18,9 @@ use Rattle.sorted_table.proofs.Laws.{first, second, both}
 use Rattle.index_tables.specs.RecordRows.{rows_of_record, index_rows}
 use Rattle.index_tables.specs.Unique.{first_repeated}
 use Rattle.indexed_records.specs.Causes.{tied_key}
-use Rattle.indexed_records.specs.View.{records_of}
+use Rattle.store_contents.specs.View.{records_of}
 use Rattle.index_tables.proofs.Laws.{rows_with, rows_new}
-use Rattle.indexed_records.proofs.Matching.{rows_of_nothing}
-use Rattle.indexed_records.proofs.ByKey.{Entries, InOrder, get_of, of_none, of_put, taken_lack, taken_put}
+use Rattle.store_contents.proofs.Laws.{rows_of_nothing, Entries, InOrder, get_of, of_none, of_put, taken_lack, taken_put}
 
 pub rows_at_first : (index : IndexInfo) → index_rows index (records_of []) ≡ no_rows
 rows_at_first index = rows_of_nothing index (records_of []) (of_none [] refl)

@@ -6,8 +6,8 @@ ghost use Rattle.index_tables.specs.Rows.{no_rows, rows_of, count_of};
 ghost use Rattle.index_tables.specs.RecordRows.{index_rows};
 ghost use Rattle.index_tables.specs.Unique.{first_repeated, broken_key};
 ghost use Rattle.indexed_records.specs.Causes.{tied_key};
-ghost use Rattle.indexed_records.specs.Matches.{InStep};
-ghost use Rattle.indexed_records.specs.View.{records_of};
+ghost use Rattle.store_contents.specs.Matches.{InStep};
+ghost use Rattle.store_contents.specs.View.{records_of};
 
 use crate::clashing::ties;
 use crate::extracting::rows_in_one;

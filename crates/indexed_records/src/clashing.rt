@@ -5,7 +5,7 @@ ghost use Rattle.key_order.specs.KeyOrder.{key_cmp};
 ghost use Rattle.clone_values.specs.View.{key_tree_of};
 ghost use Rattle.index_tables.specs.Rows.{rows_of};
 ghost use Rattle.index_tables.specs.Unique.{first_repeated};
-ghost use Rattle.indexed_records.specs.Clashes.{has_other, clash_in, clash_at, clash_any, AreUnique};
+ghost use Rattle.store_contents.specs.Clashes.{has_other, clash_in, clash_at, clash_any, AreUnique};
 
 use crate::reading::table_at;
 use crate::row_lists::RowLists;

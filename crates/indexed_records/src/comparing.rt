@@ -2,7 +2,7 @@
 ghost use Rattle.std.specs.Prelude.{◌≡◌, ◌+◌, ◌<◌, ◌≤◌, ◌&&◌, length, drop, IfOk, IfSome, IfNone};
 ghost use Rattle.clone_values.specs.View.{key_tree_of, tree_of};
 ghost use Rattle.idb_base.specs.Lists.{StandsAt};
-ghost use Rattle.indexed_records.specs.Sameness.{keys_given, same_keys, gives_same_keys, gives_same_rows};
+ghost use Rattle.store_contents.specs.Sameness.{keys_given, same_keys, gives_same_keys, gives_same_rows};
 
 use crate::clashing::ties;
 use clone_values::{Key, Value};

@@ -2,8 +2,8 @@
 ghost use Rattle.std.specs.Prelude.{◌≡◌, ◌<◌, ◌≤◌, Some, [], length, insert, remove, slice_get, vec_capacity, IfOk, OnOk, OnErr};
 ghost use Rattle.index_tables.specs.Rows.{IndexRows};
 ghost use Rattle.index_tables.specs.RecordRows.{Records, index_rows};
-ghost use Rattle.indexed_records.specs.Matches.{InStep};
-ghost use Rattle.indexed_records.specs.Walks.{IsInserted};
+ghost use Rattle.store_contents.specs.Matches.{InStep};
+ghost use Rattle.store_contents.specs.Walks.{IsInserted};
 
 use crate::emptying::boxed;
 use crate::growing::{complete, fill};
@@ -30,7 +30,7 @@ pub struct Dropped<T: Tables> {
 impl<T: Tables> Model for Dropped<T> {
     ghost use Rattle.std.specs.Prelude.{◌≡◌, ◌≤◌, [], vec_capacity};
     ghost use Rattle.std.specs.Coded.{codes};
-    ghost use Rattle.indexed_records.specs.Taken.{DroppedIndex, rows_code};
+    ghost use Rattle.store_contents.specs.Taken.{DroppedIndex, rows_code};
 
     ghost Value = { DroppedIndex };
 

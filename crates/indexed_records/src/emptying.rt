@@ -16,8 +16,8 @@ impl<T: Tables> Model for Emptied<T> {
     ghost use Rattle.std.specs.Prelude.{map, ◌≤◌};
     ghost use Rattle.std.specs.List.{AllByRecursion};
     ghost use Rattle.std.specs.Coded.{codes};
-    ghost use Rattle.indexed_records.specs.Taken.{TakenRecords, taken_code};
-    ghost use Rattle.indexed_records.specs.View.{records_of};
+    ghost use Rattle.store_contents.specs.Taken.{TakenRecords, taken_code};
+    ghost use Rattle.store_contents.specs.View.{records_of};
 
     ghost Value = { TakenRecords };
 

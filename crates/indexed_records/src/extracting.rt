@@ -3,7 +3,7 @@ ghost use Rattle.std.specs.Prelude.{◌≡◌, [], ◌∷◌, map, IfOk};
 ghost use Rattle.clone_values.specs.View.{key_tree_of, tree_of};
 ghost use Rattle.index_tables.specs.View.{row_of};
 ghost use Rattle.index_tables.specs.RecordRows.{rows_of_record};
-ghost use Rattle.indexed_records.specs.Contents.{rows_in_indexes};
+ghost use Rattle.store_contents.specs.Contents.{rows_in_indexes};
 
 use crate::row_lists::RowLists;
 use clone_values::{Key, Keys, Value};

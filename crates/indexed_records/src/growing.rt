@@ -1,8 +1,8 @@
 // The tables of rows, changed one by one.
 ghost use Rattle.std.specs.Prelude.{◌≡◌, ℕ, ◌≤◌, [], ◌∷◌, length, vec_capacity, OnOk, OnErr};
 ghost use Rattle.index_tables.specs.RecordRows.{Records};
-ghost use Rattle.indexed_records.specs.Matches.{InStep};
-ghost use Rattle.indexed_records.specs.Walks.{AllChanged, Keeps, HasRoomFor, Adds, Removes, Replaces, CanAdd, IsFilled, paired};
+ghost use Rattle.store_contents.specs.Matches.{InStep};
+ghost use Rattle.store_contents.specs.Walks.{AllChanged, Keeps, HasRoomFor, Adds, Removes, Replaces, CanAdd, IsFilled, paired};
 
 use crate::row_lists::{Lists, RowLists};
 use idb_base::NoMemory;

@@ -4,8 +4,8 @@ ghost use Rattle.std.specs.FinMap as finite;
 ghost use Rattle.clone_values.specs.Tree.{Tree};
 ghost use Rattle.clone_values.specs.KeyTree.{KeyTree};
 ghost use Rattle.clone_values.specs.View.{key_tree_of, tree_of};
-ghost use Rattle.indexed_records.specs.Contents.{IsRecordAt, IsGapOf};
-ghost use Rattle.indexed_records.specs.View.{records_of};
+ghost use Rattle.store_contents.specs.Contents.{IsRecordAt, IsGapOf};
+ghost use Rattle.store_contents.specs.View.{records_of};
 
 use clone_values::{Key, Value};
 use sorted_table::OrderedTable;

@@ -21,5 +21,6 @@ mod row_lists;
 pub use dropping::Dropped;
 pub use emptying::Emptied;
 pub use index_error::IndexError;
+pub use index_tables::Tables;
 pub use records::IndexedRecords;
 pub use row_lists::{RowLists, plus};

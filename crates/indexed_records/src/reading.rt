@@ -7,11 +7,11 @@ ghost use Rattle.clone_values.specs.View.{key_tree_of};
 ghost use Rattle.idb_keys.specs.declared.names.Over.TheVariants.{Store, Index};
 ghost use Rattle.index_tables.specs.Rows.{rows_of};
 ghost use Rattle.index_tables.specs.View.{bound_seen};
-ghost use Rattle.indexed_records.specs.Contents.{IsRecordAt, IsGapOf};
-ghost use Rattle.indexed_records.specs.Ends.{IsFirstFrom};
-ghost use Rattle.indexed_records.specs.Reading.{keys_seen, value_seen};
-ghost use Rattle.indexed_records.specs.Shown.{shown_by};
-ghost use Rattle.indexed_records.specs.View.{record_seen, records_of, own_rows};
+ghost use Rattle.store_contents.specs.Contents.{IsRecordAt, IsGapOf};
+ghost use Rattle.store_contents.specs.Ends.{IsFirstFrom};
+ghost use Rattle.store_contents.specs.Reading.{keys_seen, value_seen};
+ghost use Rattle.store_contents.specs.Shown.{shown_by};
+ghost use Rattle.store_contents.specs.View.{record_seen, records_of, own_rows};
 
 use crate::clashing::ties;
 use clone_values::{Key, Value};

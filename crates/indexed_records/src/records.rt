@@ -5,10 +5,10 @@ ghost use Rattle.clone_values.specs.Tree.{Tree};
 ghost use Rattle.clone_values.specs.View.{key_tree_of};
 ghost use Rattle.idb_keys.specs.declared.names.Over.TheVariants.{Store, Index};
 ghost use Rattle.index_tables.specs.View.{rows_in, bound_seen};
-ghost use Rattle.indexed_records.specs.Contents.{IsRecordAt, IsGapOf};
-ghost use Rattle.indexed_records.specs.Ends.{IsFirstFrom};
-ghost use Rattle.indexed_records.specs.Reading.{members_in, keys_seen, value_seen};
-ghost use Rattle.indexed_records.specs.View.{record_seen, own_rows};
+ghost use Rattle.store_contents.specs.Contents.{IsRecordAt, IsGapOf};
+ghost use Rattle.store_contents.specs.Ends.{IsFirstFrom};
+ghost use Rattle.store_contents.specs.Reading.{members_in, keys_seen, value_seen};
+ghost use Rattle.store_contents.specs.View.{record_seen, own_rows};
 
 mod indexing;
 mod writing;
@@ -40,14 +40,14 @@ pub struct IndexedRecords<T: Tables> {
 
 impl<T: Tables> Model for IndexedRecords<T> {
     ghost use Rattle.std.specs.Coded.{codes};
-    ghost use Rattle.indexed_records.specs.Contents.{Indexed, records_code};
+    ghost use Rattle.store_contents.specs.Contents.{Indexed, records_code};
 
     ghost Value = { Indexed };
 
     ghost coded = { Prim.hlevel (codes, records_code) };
 
-    ghost use Rattle.indexed_records.specs.View.{records_of};
-    ghost use Rattle.indexed_records.specs.Matches.{InStep};
+    ghost use Rattle.store_contents.specs.View.{records_of};
+    ghost use Rattle.store_contents.specs.Matches.{InStep};
 
     ghost view = { λ a. record {
       info = a.info;

@@ -1,7 +1,7 @@
 // The rows of one record in all indexes, and how many these are. Contracts see the list of their lists.
 ghost use Rattle.std.specs.Prelude.{◌≡◌, ◌+◌, [], ◌∷◌, length, slice_get, IfOk};
 ghost use Rattle.std.specs.Option.{option_copied};
-ghost use Rattle.indexed_records.specs.Contents.{rows_among};
+ghost use Rattle.store_contents.specs.Contents.{rows_among};
 
 use idb_base::NoMemory;
 use index_tables::Rows;
@@ -27,7 +27,7 @@ impl Model for RowLists {
     ghost use Rattle.std.specs.Prelude.{◌≡◌, List};
     ghost use Rattle.std.specs.Coded.{coded_list};
     ghost use Rattle.index_tables.specs.Rows.{RowTree, row_code};
-    ghost use Rattle.indexed_records.specs.Contents.{rows_among};
+    ghost use Rattle.store_contents.specs.Contents.{rows_among};
     ghost use Rattle.indexed_records.specs.Lists.{lists_held};
 
     ghost Value = { List (List RowTree) };

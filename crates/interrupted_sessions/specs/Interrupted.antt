@@ -8,7 +8,7 @@
 --     WasInterrupted        no commit was made, or there is such a session whose commits these are
 use Rattle.std.specs.Prelude.{◌≡◌, ◌⊎◌, ℕ, ◌+◌, true, List, [], ◌∷◌, ◌++◌, length, map, None, ⊤}
 use Rattle.std.specs.List.Sorted.{IsPermutation}
-use Rattle.idb_desk.specs.declared.steps.DeskStep.{DeskStep}
+use Rattle.desk_steps.specs.declared.steps.DeskStep.{DeskStep}
 use Rattle.idb_desk.specs.Steps.{DeskRun, IsDeskRun}
 use Rattle.item_changes.specs.Items.{Items}
 use Rattle.log_history.specs.Batching.{Commit}

@@ -4,7 +4,7 @@
 --     retained, retain_kept, retain_left    the part of it whose keys pass a test
 --     inside_one, outside_one, applies_one, swap_one        the laws of scopes at one change
 --     inside_all, outside_all, applies_all, swap_all        and at a list
---     within_both, applied_both, made_both, found_both      changes, and then more
+--     within_both, made_both, found_both      changes, and then more
 use Rattle.std.proofs.Common.{◌≡◌, Bool, true, false, ◌&&◌, List, [], ◌∷◌, ◌++◌, Option, refl, ◌∙◌, ap}
 use Rattle.idb_calls.specs.Deltas.{DeltaTree}
 use Rattle.item_changes.specs.Items.{Database, Items}
@@ -12,14 +12,11 @@ use Rattle.item_changes.specs.Effects.{effect_of, finds, made, made_all, finds_a
 use Rattle.item_changes.specs.Scopes.{Scope, AllWithin}
 pub use Rattle.item_changes.proofs.ChangedAt.{changed_here, changed_elsewhere, changed_apart, changed_twice, retained, retain_kept, retain_left}
 pub use Rattle.item_changes.proofs.ScopeLemmas.{names_total, one_name, same_name, inside_one, outside_one, applies_one, swap_one, inside_all, outside_all, applies_all, swap_all}
+pub use Rattle.object_stores.proofs.Laws.{deleted_changes}
 
 pub within_both : (a : Scope) (ds es : List DeltaTree) → AllWithin a ds → AllWithin a es → AllWithin a (ds ++ es)
 within_both a [] es p q = q
 within_both a (d ∷ ds) es p q = (p.0, within_both a ds es p.1 q)
-
-pub applied_both : (items : Items) (ds es : List DeltaTree) → applied_all items (ds ++ es) ≡ applied_all (applied_all items ds) es
-applied_both items [] es = refl
-applied_both items (d ∷ ds) es = applied_both (applied items d) ds es
 
 pub made_both : (ds es : List DeltaTree) (there : Option Database) → made_all (ds ++ es) there ≡ made_all es (made_all ds there)
 made_both [] es there = refl

@@ -10,3 +10,4 @@ mod laws_of_scopes;
 
 pub use laws_of_changes::{change_laws, condition_laws};
 pub use laws_of_scopes::scope_laws;
+pub use object_stores::{StoreError, StoreVersion};

@@ -16,7 +16,7 @@ use Rattle.std.proofs.lemmas.Cmp.{ranked, by_ranked}
 use Rattle.std.specs.Cmp.{nat_cmp_is, first_so, second_so}
 use Rattle.std.proofs.lemmas.Cmp.{nat_list_cmp_total, tied_itself}
 use Rattle.std.specs.FinMap.{nat_cmp-IsAntisymmetric}
-use Rattle.key_order.proofs.Laws.{then_equal}
+use Rattle.key_order.proofs.TotalOrder.{then_equal}
 use Rattle.std.proofs.lemmas.Bool.{cond_both}
 use Rattle.std.proofs.Common.{ltb-true, ltb-false}
 use lib.Utf8.{scalar, scalar_cases}

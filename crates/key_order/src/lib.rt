@@ -13,7 +13,7 @@ ghost use Rattle.clone_values.specs.View.{key_tree_of};
 ghost use Rattle.clone_values.specs.KeyTree.{key_trees_of};
 ghost use Rattle.key_order.specs.KeyOrder.{key_cmp, keys_cmp, text_cmp, byte_rank, type_rank, code_units, DifferAt, SurrogateMeetsHigh};
 
-use clone_values::{Key, Keys};
+pub use clone_values::{Key, Keys, Text};
 use std::cmp::Ordering;
 
 /// The bytes that are passed over at once where two strings begin alike.

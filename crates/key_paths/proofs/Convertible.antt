@@ -11,7 +11,7 @@ use Rattle.clone_values.specs.KeyTree.{KeyTree, KeyTrees}
 use Rattle.clone_values.specs.KeyTree as keys
 use Rattle.clone_values.specs.Values.{depth_of}
 use Rattle.key_paths.specs.Comparing.{as_key, as_keys}
-use Rattle.key_paths.specs.Conversion.{with_first, key_within, keys_within, is_convertible, are_convertible, key_of}
+use Rattle.key_order.specs.Conversion.{with_first, key_within, keys_within, is_convertible, are_convertible, key_of}
 
 both_there : (o : Option KeyTree) (p : Option KeyTrees) → is_some (with_first o p) ≡ (is_some o && is_some p)
 both_there None p = refl

@@ -13,7 +13,7 @@ use Rattle.std.specs.BTreeSet.{BTreeSet, Updates}
 use Rattle.std.specs.Cmp.{eq_by_cmp_equiv}
 use Rattle.key_order.proofs.Laws.{key_cmp_same, key_cmp_total}
 use Rattle.std.specs.Prelude.{if◌then◌else◌}
-use Rattle.key_paths.specs.Conversion.{key_of, keys_of, each_once}
+use Rattle.key_order.specs.Conversion.{key_of, keys_of, each_once}
 use Rattle.key_paths.specs.KeysSeen.{is_among_keys, with_new, HasExactly}
 
 -- the keys that are not among those found

@@ -10,7 +10,7 @@ use Rattle.clone_values.specs.Values.{depth_of, trees_depth}
 use Rattle.clone_values.specs.declared.path_types.PathSpec.TheVariants.{Many}
 use Rattle.key_paths.specs.declared.extraction.Extraction.{Extraction}
 use Rattle.key_paths.specs.declared.extraction.Extraction.TheVariants as kind
-use Rattle.key_paths.specs.Conversion.{key_of, is_convertible, are_convertible, fits_in_array}
+use Rattle.key_order.specs.Conversion.{key_of, is_convertible, are_convertible, fits_in_array}
 use Rattle.key_paths.specs.Evaluation.{one_or_invalid, all_there, string_evaluated, extracted_from, extracted}
 use Rattle.key_paths.specs.View.{extraction_of, key_or_invalid}
 use Rattle.key_paths.proofs.Convertible.{array_tests}

@@ -9,7 +9,7 @@ use Rattle.clone_values.specs.KeyTree.{KeyTree, KeyTrees, number, date, text, bi
 use Rattle.clone_values.specs.Values.{depth_of, trees_depth}
 use Rattle.clone_values.specs.declared.key_types.Key.{Key}
 use Rattle.clone_values.specs.View.{key_tree_of}
-use Rattle.key_paths.specs.Conversion.{with_first, key_within, keys_within, key_of}
+use Rattle.key_order.specs.Conversion.{with_first, key_within, keys_within, key_of}
 use Rattle.clone_values.specs.KeyValues.{value_of_key, values_of_keys, key_depth, keys_depth}
 
 abbrev pub onto : List KeyTree → Option KeyTrees → Option KeyTrees

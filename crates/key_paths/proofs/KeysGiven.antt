@@ -17,7 +17,7 @@ use Rattle.clone_values.specs.declared.path_types.PathSpec.TheVariants.{Many}
 use Rattle.key_order.specs.KeyOrder.{key_cmp, keys_cmp}
 use Rattle.key_order.proofs.Laws.{key_cmp_total}
 use Rattle.key_paths.specs.Comparing.{as_key, as_keys, comes_to, is_item}
-use Rattle.key_paths.specs.Conversion.{key_of, fits_in_array}
+use Rattle.key_order.specs.Conversion.{key_of, fits_in_array}
 use Rattle.key_paths.specs.Evaluation.{one_or_invalid, converted, all_there, string_evaluated, extracted_from, extracted}
 use Rattle.key_paths.proofs.Convertible.{has_key, array_tests}
 use Rattle.key_paths.proofs.Extracting.{all_fit, turned}

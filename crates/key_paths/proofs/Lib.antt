@@ -9,8 +9,6 @@ pub mod PathEnds
 pub mod Placing
 pub mod FoundAgain
 pub mod StaysCloneable
-pub mod KeyDepths
-pub mod KeysFormed
 pub mod ValuesFound
 pub mod ValuesInjected
 pub mod Laws

@@ -19,10 +19,10 @@ use Rattle.clone_values.specs.declared.path_types.PathSpec.{PathSpec}
 use Rattle.clone_values.specs.declared.path_types.PathSpec.TheVariants.{One, Many}
 use Rattle.key_order.specs.KeyOrder.{code_units}
 use Rattle.path_grammar.specs.KeyPath.{parts_of, is_path_string, is_key_path}
-use Rattle.key_paths.specs.Conversion.{key_of}
+use Rattle.key_order.specs.Conversion.{key_of}
 use Rattle.key_paths.specs.Evaluation.{evaluated, string_evaluated, walked, step_of, takes_length, length_of, property_of, named_properties, unless_undefined, all_there, extracted, extracted_from, converted, one_or_invalid, AreKeys}
 use Rattle.key_paths.proofs.StaysCloneable.{members_back}
-use Rattle.key_paths.proofs.KeysFormed.{key_formed, keys_formed}
+use Rattle.key_order.proofs.Laws.{key_formed, keys_formed}
 
 -- ---- a length is an Int
 chars_after_short : (n c : ℕ) (bs : List ℕ) → length (chars_after n c bs) ≤ 1 + length bs

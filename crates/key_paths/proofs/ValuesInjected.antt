@@ -24,7 +24,7 @@ use Rattle.key_paths.specs.Evaluation.{evaluated, walked, takes_length, length_o
 use Rattle.key_paths.specs.Injection.{can_inject, injected, is_holder, all_but_last, ends_at_holder, with_properties, held_under, placed, has_room_along, has_room_for}
 use Rattle.key_paths.proofs.PathEnds.{no_length, holder_so, ends_inside}
 use Rattle.key_paths.proofs.FoundAgain.{holder_defined, turned, plain_step, no_step, new_holder, gives_none}
-use Rattle.key_paths.proofs.KeysFormed.{value_formed}
+use Rattle.key_order.proofs.Laws.{value_formed}
 use Rattle.key_paths.proofs.StaysCloneable.{members_back}
 use Rattle.key_paths.proofs.ValuesFound.{properties_formed}
 

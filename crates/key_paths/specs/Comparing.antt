@@ -10,7 +10,7 @@ use Rattle.clone_values.specs.Tree.{Tree, Trees, int, date, text, bytes, array, 
 use Rattle.clone_values.specs.KeyTree.{KeyTree, KeyTrees, no_keys, key_more}
 use Rattle.clone_values.specs.KeyTree as keys
 use Rattle.key_order.specs.KeyOrder.{key_cmp}
-use Rattle.key_paths.specs.Conversion.{fits_in_array}
+use Rattle.key_order.specs.Conversion.{fits_in_array}
 use Rattle.key_paths.specs.Evaluation.{Extract, one, many, invalid, failure}
 
 abbrev pub compared : Option KeyTree → Option KeyTree → Option Ordering

@@ -14,7 +14,7 @@ use Rattle.clone_values.specs.declared.path_types.PathSpec.{PathSpec}
 use Rattle.clone_values.specs.declared.path_types.PathSpec.TheVariants.{One, Many}
 use Rattle.key_order.specs.KeyOrder.{code_units}
 use Rattle.path_grammar.specs.KeyPath.{parts_of}
-use Rattle.key_paths.specs.Conversion.{key_of, keys_of}
+use Rattle.key_order.specs.Conversion.{key_of, keys_of}
 
 -- the identifier `length`
 abbrev pub is_length : List ℕ → Bool

@@ -1,5 +1,5 @@
 pub mod Comparing
-pub mod Conversion
+pub use Rattle.key_order.specs.Conversion
 pub mod Evaluation
 pub mod Injection
 pub mod KeysSeen

@@ -6,7 +6,7 @@ ghost use Rattle.clone_values.specs.View.{tree_of, key_tree_of};
 ghost use Rattle.key_order.specs.KeyOrder.{key_cmp, keys_cmp, type_rank};
 ghost use Rattle.clone_values.specs.declared.path_types.PathSpec.TheVariants.{Many};
 ghost use Rattle.key_paths.specs.Comparing.{compared, as_key, as_keys, comes_to, is_item};
-ghost use Rattle.key_paths.specs.Conversion.{key_of, is_convertible, are_convertible};
+ghost use Rattle.key_order.specs.Conversion.{key_of, is_convertible, are_convertible};
 ghost use Rattle.key_paths.specs.Evaluation.{converted, extracted, extracted_from};
 ghost use Rattle.key_paths.specs.View.{value_found};
 

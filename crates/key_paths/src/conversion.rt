@@ -4,7 +4,7 @@ ghost use Rattle.std.specs.List.{All};
 ghost use Rattle.clone_values.specs.Tree.{Tree, trees_of};
 ghost use Rattle.clone_values.specs.KeyTree.{KeyTree, key_trees_of};
 ghost use Rattle.clone_values.specs.View.{tree_of, key_tree_of};
-ghost use Rattle.key_paths.specs.Conversion.{key_of, key_within, keys_within, is_convertible, are_convertible, fits_in_array, keys_of, AreDistinctKeys};
+ghost use Rattle.key_order.specs.Conversion.{key_of, key_within, keys_within, is_convertible, are_convertible, fits_in_array, keys_of, AreDistinctKeys};
 ghost use Rattle.clone_values.specs.KeyValues.{IsKey, value_of_key, values_of_keys, key_depth};
 ghost use Rattle.clone_values.specs.WellFormed.{IsValue, are_values};
 ghost use Rattle.clone_values.specs.Values.{depth_of, IsCloneable};

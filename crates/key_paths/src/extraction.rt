@@ -5,7 +5,7 @@ ghost use Rattle.clone_values.specs.View.{tree_of};
 ghost use Rattle.clone_values.specs.WellFormed.{IsValue};
 ghost use Rattle.clone_values.specs.declared.path_types.PathSpec.{PathSpec};
 ghost use Rattle.path_grammar.specs.KeyPath.{is_key_path};
-ghost use Rattle.key_paths.specs.Conversion.{key_of, fits_in_array};
+ghost use Rattle.key_order.specs.Conversion.{key_of, fits_in_array};
 ghost use Rattle.key_paths.specs.Evaluation.{evaluated, converted, AreKeys, extracted, extracted_from, one_or_invalid, invalid, failure};
 ghost use Rattle.clone_values.specs.declared.path_types.PathSpec.TheVariants.{Many};
 ghost use Rattle.key_paths.specs.View.{value_found, extract_of, extraction_of, key_or_invalid};

@@ -5,7 +5,7 @@ ghost use Rattle.std.specs.Ordering.{eq_by_cmp};
 ghost use Rattle.std.specs.Cmp.{partial_equiv_from_equiv, eq_by_cmp_equiv, po};
 ghost use Rattle.key_order.specs.KeyOrder.{key_cmp};
 ghost use Rattle.key_order.proofs.Laws.{key_cmp_total};
-ghost use Rattle.key_paths.specs.Conversion.{keys_of};
+ghost use Rattle.key_order.specs.Conversion.{keys_of};
 ghost use Rattle.key_paths.specs.KeysSeen.{with_new, HasExactly};
 
 use crate::conversion::to_key;

@@ -2,7 +2,7 @@
 use Rattle.std.proofs.Common.{◌≡◌, List, [], ◌∷◌, map, refl, sym, subst}
 use Rattle.std.specs.List.Sorted.{IsPermutation}
 use Rattle.std.proofs.lemmas.List.Sorted.{IsPermutation-map}
-use Rattle.idb_desk.specs.declared.steps.DeskStep.{DeskStep}
+use Rattle.desk_steps.specs.declared.steps.DeskStep.{DeskStep}
 use Rattle.client_machine.specs.FinishEntries.{FinishEntry}
 use Rattle.script_runs.specs.declared.notes.Note.{Note}
 use Rattle.script_handlers.specs.Handling.{Script}

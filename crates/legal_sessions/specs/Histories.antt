@@ -11,7 +11,7 @@ use Rattle.std.specs.Prelude.{Bool, nat_eq}
 use Rattle.std.specs.FinMap as finite
 use Rattle.idb_schema.specs.Schemas.{SchemaData, IsSchema}
 use Rattle.name_queues.specs.Mails.{events_of}
-use Rattle.idb_desk.specs.declared.steps.DeskStep.{DeskStep}
+use Rattle.desk_steps.specs.declared.steps.DeskStep.{DeskStep}
 use Rattle.idb_desk.specs.Steps.{DeskRun, desk_run}
 use Rattle.idb_desk.specs.Tokens.{client_of}
 use Rattle.item_changes.specs.Items.{Name, Database, Items}

@@ -22,8 +22,8 @@ use Rattle.std.specs.List.{list_any, AllByRecursion}
 use Rattle.std.specs.FinMap as finite
 use Rattle.idb_calls.specs.declared.traces.Outcome.{Outcome}
 use Rattle.idb_calls.specs.declared.traces.Outcome.TheVariants.{Committed, Aborted}
-use Rattle.idb_desk.specs.declared.steps.DeskStep.{DeskStep}
-use Rattle.idb_desk.specs.declared.steps.DeskStep.TheVariants as step
+use Rattle.desk_steps.specs.declared.steps.DeskStep.{DeskStep}
+use Rattle.desk_steps.specs.declared.steps.DeskStep.TheVariants as step
 use Rattle.idb_desk.specs.Durabilities.{durability_drawn}
 use Rattle.idb_desk.specs.Steps.{desk_run, IsDeskRun}
 use Rattle.idb_desk.specs.Tokens.{token_of}

@@ -23,9 +23,9 @@ use Rattle.idb_calls.specs.Deltas.{Put, Current}
 use Rattle.store_requests.specs.Store.{Store}
 use Rattle.store_requests.specs.Storing.{Entry, CanStore, noted, with_key, is_refused, with_entry}
 use Rattle.store_requests.specs.Changed.{with_current, store_with_record}
-use Rattle.item_changes.specs.Items.{Name, is_same_name, Database, stood_at}
-use Rattle.item_changes.specs.Effects.{OnStore, is_store_with, has_generator, if_there, finds, made, made_all, finds_all}
-use Rattle.item_changes.proofs.Laws.{names_total, one_name, same_name, changed_here, changed_twice}
+use Rattle.store_requests.specs.Items.{Name, is_same_name, Database, stood_at}
+use Rattle.store_requests.specs.Effects.{OnStore, is_store_with, has_generator, if_there, finds, made, made_all, finds_all}
+use Rattle.store_requests.proofs.Laws.{names_total, one_name, same_name, changed_here, changed_twice}
 use Rattle.store_requests.specs.declared.changes.StoreNames.{StoreNames}
 use Rattle.store_requests.specs.Runs.{Ran, storing, deleting, clearing, refused_run, stored_run}
 use Rattle.store_requests.specs.Leaving.{with_named_store, Leaves}

@@ -10,9 +10,9 @@ use Rattle.idb_schema.specs.declared.calls.SchemaCall.{SchemaCall}
 use Rattle.idb_schema.specs.Schemas.{SchemaData}
 use Rattle.idb_calls.specs.declared.calls.Call.{Call}
 use Rattle.idb_calls.specs.Deltas.{DeltaTree}
-use Rattle.item_changes.specs.Items.{Database}
-use Rattle.item_changes.specs.Effects.{is_raised_by, made_all, finds_all}
-use Rattle.item_changes.proofs.Laws.{made_both, found_both}
+use Rattle.store_requests.specs.Items.{Database}
+use Rattle.store_requests.specs.Effects.{is_raised_by, made_all, finds_all}
+use Rattle.store_requests.proofs.Laws.{made_both, found_both}
 use Rattle.request_lists.specs.declared.entries.FrontCursor.{FrontCursor}
 use Rattle.request_lists.specs.declared.entries.ListEntry.{ListEntry}
 use Rattle.request_lists.specs.declared.entries.ListEntry.TheVariants.{Request, Turn as CursorTurn, Change}

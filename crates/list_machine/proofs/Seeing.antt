@@ -20,7 +20,7 @@ use Rattle.idb_calls.specs.declared.calls.Call.TheVariants.{Add, Put, Get, GetKe
 use Rattle.idb_calls.specs.declared.events.Event.{Event}
 use Rattle.idb_calls.specs.declared.events.Event.TheVariants.{Error}
 use Rattle.idb_calls.specs.Deltas.{DeltaTree}
-use Rattle.item_changes.specs.Effects.{made_all}
+use Rattle.store_requests.specs.Effects.{made_all}
 use Rattle.store_requests.specs.Store.{Store}
 use Rattle.store_requests.specs.declared.changes.StoreNames.{StoreNames}
 use Rattle.store_requests.specs.Runs.{Ran}

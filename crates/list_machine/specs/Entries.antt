@@ -23,8 +23,8 @@ use Rattle.idb_calls.specs.declared.calls.Call.{Call}
 use Rattle.idb_calls.specs.declared.calls.Call.TheVariants.{Add, Put, Update}
 use Rattle.idb_calls.specs.declared.traces.TheConstants.{GREATEST_DELTA_COUNT}
 use Rattle.idb_calls.specs.Deltas.{DeltaTree, CreateStore, DropStore, CreateIndex, DropIndex}
-use Rattle.item_changes.specs.Items.{Name, Database}
-use Rattle.item_changes.specs.Effects.{new_index, made_all}
+use Rattle.store_requests.specs.Items.{Name, Database}
+use Rattle.store_requests.specs.Effects.{new_index, made_all}
 use Rattle.store_requests.specs.declared.changes.StoreNames.{StoreNames}
 use Rattle.store_requests.specs.Runs.{Ran}
 use Rattle.store_requests.specs.Leaving.{with_named_store}

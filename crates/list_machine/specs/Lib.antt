@@ -4,3 +4,6 @@ pub mod Entries
 pub mod Machine
 pub mod Noting
 pub mod Seeing
+pub use Rattle.store_requests.specs.Leaving
+pub use Rattle.store_requests.specs.Runs
+pub use Rattle.store_requests.specs.declared.changes.StoreNames

@@ -10,8 +10,8 @@ use Rattle.idb_keys.specs.declared.names.Mode.TheVariants as mode
 use Rattle.idb_schema.specs.Schemas.{SchemaData}
 use Rattle.idb_calls.specs.declared.calls.Call.{Call}
 use Rattle.idb_calls.specs.declared.calls.Call.TheVariants.{Add, Put}
-use Rattle.item_changes.specs.Items.{Database}
-use Rattle.item_changes.specs.Effects.{is_raised_by, made_all, finds_all}
+use Rattle.store_requests.specs.Items.{Database}
+use Rattle.store_requests.specs.Effects.{is_raised_by, made_all, finds_all}
 use Rattle.store_requests.specs.Storing.{CanStore}
 use Rattle.request_lists.specs.declared.entries.ListEntry.{ListEntry}
 use Rattle.request_lists.specs.declared.entries.ListEntry.TheVariants.{Request, Turn, Change}

@@ -24,7 +24,7 @@ use Rattle.idb_calls.specs.declared.calls.Target.{Target}
 use Rattle.store_requests.specs.Store.{Store}
 use Rattle.store_requests.specs.Showing.{shown_in}
 use Rattle.store_requests.specs.Members.{member_taken}
-use Rattle.item_changes.specs.Items.{Name, Database}
+use Rattle.store_requests.specs.Items.{Name, Database}
 use Rattle.store_requests.specs.Answers.{value_answer, key_answer, values_answer, keys_answer, count_answer, cursor_answer}
 use Rattle.store_requests.specs.declared.changes.StoreNames.{StoreNames}
 use Rattle.store_requests.specs.Runs.{Ran, storing, deleting, clearing}

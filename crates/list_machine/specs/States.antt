@@ -11,8 +11,8 @@ use Rattle.idb_keys.specs.declared.names.Mode.{Mode}
 use Rattle.idb_keys.specs.declared.names.Mode.TheVariants as mode
 use Rattle.idb_schema.specs.Schemas.{SchemaData}
 use Rattle.idb_calls.specs.Deltas.{DeltaTree, Version}
-use Rattle.item_changes.specs.Items.{Name, Database}
-use Rattle.item_changes.specs.Effects.{made_all}
+use Rattle.store_requests.specs.Items.{Name, Database}
+use Rattle.store_requests.specs.Effects.{made_all}
 use Rattle.request_lists.specs.Fronts.{Front}
 
 -- The schema is as the entries that have run left it; the front's own is as the calls left it, and so ahead. The changes stand in the

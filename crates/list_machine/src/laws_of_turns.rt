@@ -3,7 +3,7 @@ ghost use Rattle.std.specs.Prelude.{◌≡◌, ◌++◌, List, [], Option};
 ghost use Rattle.idb_keys.specs.declared.names.ErrorName.{ErrorName};
 ghost use Rattle.idb_schema.specs.Schemas.{SchemaData};
 ghost use Rattle.idb_calls.specs.declared.events.Event.{Event};
-ghost use Rattle.item_changes.specs.Items.{Database};
+ghost use Rattle.store_requests.specs.Items.{Database};
 ghost use Rattle.request_lists.specs.declared.entries.ListEntry.{ListEntry};
 ghost use Rattle.request_lists.specs.declared.handlers.HandlerEnd.{HandlerEnd};
 ghost use Rattle.request_lists.specs.Fronts.{Front};

@@ -13,3 +13,4 @@ pub use laws_of_seeing::seeing_laws;
 pub use laws_of_turns::{abort_laws, list_laws, noting_laws};
 pub use limits::{GREATEST_REQUEST_COUNT, GREATEST_STORE_COUNT, GREATEST_VALUE_BYTES};
 pub use steps::Step;
+pub use store_requests::leaving_laws;

@@ -132,11 +132,6 @@ module _ (named : StoreNames) (name : Name) (old new : Stores) (noted later : Li
       ] h.0
 
 -- ---- what is never refused
-pub never_refused : (run : Store → Ran) (name : Name) (old new : Stores) (noted later : List DeltaTree) → ((x : Store) → (t : Tree) × ((run x).answer ≡ Some t)) → HasChanged run name old None new noted later → ⊥
-never_refused run name old new noted later always h = go (finite.get old name) h where
-  go : (there : Option Store) → HasChangedOn there run name old None new noted later → ⊥
-  go None h = none-some undefined h.0
-  go (Some x) h = none-some (always x).0 (h.0 ∙ (always x).1)
 
 -- ---- the database before and the one now
 module _ {T R W : Type 0} (version_before version : Option ℕ) (es fs : List (Name × Slot T R W)) where

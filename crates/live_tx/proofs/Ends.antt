@@ -20,7 +20,7 @@ use Rattle.list_machine.specs.States.{State}
 use Rattle.list_machine.specs.Machine.{Reacts, Writes, Handles, Cancels, CancelsNone, CancelsFirst, CancelsChange, Aborts, lent, returned, with_waiting}
 use Rattle.handler_calls.specs.Attending.{IsAttended}
 use Rattle.handler_calls.proofs.Laws.{becomes_finished}
-use Rattle.tx_courses.specs.Courses.{CourseData, state_with, restored}
+use Rattle.entry_runs.specs.Courses.{CourseData, state_with, restored}
 use Rattle.live_tx.specs.Live.{IsOver}
 use Rattle.live_tx.specs.Turning.{CancelsInto}
 use Rattle.live_tx.specs.Telling.{AbortsInto}
@@ -87,9 +87,6 @@ ended_attended front last error e a = subst IsAttended (sym e) (record { cursors
 none_first : {A : Type 0} (xs : List A) → slice_get xs 0 ≡ None → xs ≡ []
 none_first [] e = refl
 none_first (x ∷ xs) e = cc
-
-pub dropped_all : {D : Type 0} (start here last : Front D) → last ≡ without_first here → slice_get here.waiting 0 ≡ None → with_waiting here [] ≡ with_waiting start [] → last ≡ with_waiting start []
-dropped_all start here last left none same = left ∙ ap (λ es. record here { waiting = drop 1 es }) (none_first here.waiting none) ∙ same
 
 pub ends_over : {D L : Type 0} (reacts : Reacts D) (writes : Writes D L) (front last : Front D) (course new : CourseData) (error : Option ErrorName) (before after : List L) (told_before told_after : List Event) → new ≡ restored course
     → CancelsInto reacts writes front error last before after told_before told_after → IsOver error (state_with last new)

@@ -34,8 +34,8 @@ use Rattle.placed_calls.specs.Fitting.{IsFitEntry, AreFit}
 use Rattle.placed_calls.proofs.Laws.{rest_fit}
 use Rattle.handler_calls.specs.Attending.{HasOwnCursor, IsAttended}
 use Rattle.handler_calls.proofs.Laws.{rest_attended, first_is}
-use Rattle.tx_courses.specs.Courses.{CourseData, state_with, course_in, restored, is_past}
-use Rattle.tx_courses.specs.Changes.{ChangesBy}
+use Rattle.entry_runs.specs.Courses.{CourseData, state_with, course_in, restored, is_past}
+use Rattle.entry_runs.specs.Changes.{ChangesBy}
 use Rattle.entry_runs.specs.declared.replies.Reply.{Reply}
 use Rattle.entry_runs.specs.declared.replies.Reply.TheVariants.{PastLimit, Answered, Failed}
 use Rattle.entry_runs.specs.Replies.{Replies, IsFormed, HasTurned}
@@ -121,17 +121,6 @@ module _ {D : Type 0} (front : Front D) (course : CourseData) (request : ℕ) (c
     came = came_at ∙ answered_at (done_by_request (state_with front course) call) None new r.0 r.1 r.2;
     tells = (refl, refl);
   }
-
-pub event_formed : (request : ℕ) (reply : Reply) (event : Event) → event_of request reply ≡ Some event → IsFormed reply → IsEvent event
-event_formed request PastLimit event e f = cc
-event_formed request (Answered value) event e f = subst IsEvent (one_some _ event e) f
-  where
-    one_some : (x y : Event) → Some x ≡ Some y → x ≡ y
-    one_some x y e = cc
-event_formed request Failed event e f = subst IsEvent (one_some _ event e) tt
-  where
-    one_some : (x y : Event) → Some x ≡ Some y → x ≡ y
-    one_some x y e = cc
 
 -- ---- cursors
 module _ {D : Type 0} (front : Front D) (course : CourseData) (number : ℕ) (call : Call) where

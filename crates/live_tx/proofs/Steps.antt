@@ -20,7 +20,7 @@ use Rattle.list_machine.specs.States.{State}
 use Rattle.list_machine.specs.Machine.{Reacts, Writes, number_in, with_waiting}
 use Rattle.placed_calls.specs.Fitting.{IsFitEntry, AreFit}
 use Rattle.handler_calls.specs.Attending.{HasOwnCursor, IsAttended}
-use Rattle.tx_courses.specs.Courses.{CourseData, state_with, restored, is_past}
+use Rattle.entry_runs.specs.Courses.{CourseData, state_with, restored, is_past}
 use Rattle.live_tx.specs.declared.next.Next.{Next}
 use Rattle.live_tx.specs.declared.next.Next.TheVariants as next
 use Rattle.live_tx.specs.Telling.{TurnsInto}

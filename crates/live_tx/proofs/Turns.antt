@@ -25,7 +25,7 @@ use Rattle.list_machine.specs.States.{State}
 use Rattle.list_machine.specs.Entries.{Came, stopped, took_effect, resulted, came}
 use Rattle.list_machine.specs.Machine.{Reacts, Writes, Handles, Cancels, CancelsNone, Turn, TurnIn, TurnAt, Ensues, EndsAs, Answers, Aborts, verdict, with_entries, with_waiting}
 use Rattle.handler_calls.specs.Telling.{abort_events}
-use Rattle.tx_courses.specs.Courses.{CourseData, state_with, course_in, restored}
+use Rattle.entry_runs.specs.Courses.{CourseData, state_with, course_in, restored}
 use Rattle.live_tx.specs.declared.next.Next.TheVariants as next
 use Rattle.live_tx.specs.Telling.{events_after, events_of_entry, events_at, events_in, TurnsInto}
 use Rattle.live_tx.specs.Live.{IsOver}

@@ -26,7 +26,7 @@ use Rattle.list_machine.specs.States.{State}
 use Rattle.list_machine.specs.Entries.{stopped, took_effect, resulted, came}
 use Rattle.list_machine.specs.Machine.{Reacts, Writes, Handles, Cancels, EndsAs, Tells, verdict, with_entries, with_waiting}
 use Rattle.handler_calls.specs.Telling.{abort_events}
-use Rattle.tx_courses.specs.Courses.{CourseData, state_with, course_in, restored}
+use Rattle.entry_runs.specs.Courses.{CourseData, state_with, course_in, restored}
 use Rattle.entry_runs.specs.declared.replies.Reply.{Reply}
 use Rattle.entry_runs.specs.declared.replies.Reply.TheVariants.{PastLimit, Answered, Failed}
 use Rattle.live_tx.specs.declared.next.Next.{Next}

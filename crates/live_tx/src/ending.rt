@@ -2,19 +2,19 @@
 ghost use Rattle.std.specs.Prelude.{◌≡◌, [], OnOk};
 ghost use Rattle.list_machine.specs.Machine.{with_waiting};
 ghost use Rattle.list_machine.specs.Seeing.{pulled_reacts, pulled_writes};
-ghost use Rattle.tx_courses.specs.Courses.{restored};
+ghost use Rattle.entry_runs.specs.Courses.{restored};
 ghost use Rattle.handler_calls.specs.Attending.{IsAttended};
 ghost use Rattle.handler_calls.specs.Cancelling.{cancel_error};
 ghost use Rattle.live_tx.specs.Live.{abort_error};
 ghost use Rattle.live_tx.specs.Turning.{CancelsInto};
 
+use entry_runs::Course;
 use handler_calls::cancel_all;
 use idb_base::NoMemory;
 use idb_calls::Events;
 use idb_keys::ErrorName;
 use index_tables::Tables;
 use request_lists::{Handler, Phase, TxFront};
-use tx_courses::Course;
 
 /// The database before is back, and then the entries that wait are told, in order.
 pub(crate) fn abort_all<T: Tables, H: Handler>(

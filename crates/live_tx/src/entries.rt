@@ -2,20 +2,19 @@
 ghost use Rattle.std.specs.Prelude.{◌≡◌, ◌∷◌, [], true, false, IfOk, IfSome};
 ghost use Rattle.request_lists.specs.Placing.{IsEvent};
 ghost use Rattle.placed_calls.specs.Fitting.{IsFitEntry, AreFit};
-ghost use Rattle.tx_courses.specs.Courses.{state_with, is_past};
+ghost use Rattle.entry_runs.specs.Courses.{state_with, is_past};
 ghost use Rattle.entry_runs.specs.Replies.{IsFormed};
 ghost use Rattle.handler_calls.specs.Attending.{HasOwnCursor, IsAttended};
 ghost use Rattle.live_tx.specs.declared.next.Next.TheVariants as next;
 ghost use Rattle.live_tx.specs.Live.{IsReadyState};
 ghost use Rattle.live_tx.specs.Turning.{event_of, kind_of_entry, first_kind, FirstCame, FirstChanged, Results};
 
-use entry_runs::{Reply, run_request, run_turn};
+use entry_runs::{Course, Reply, run_change, run_request, run_turn};
 use idb_base::NoMemory;
 use idb_calls::Event;
 use idb_keys::ErrorName;
 use index_tables::Tables;
 use request_lists::{ListEntry, TxFront};
-use tx_courses::{Course, run_change};
 
 /// The event that tells the reply to the request of this number; `None` where it would have passed a limit.
 fn event_of(request: u32, reply: Reply) -> Option<Event>

@@ -5,7 +5,7 @@ ghost use Rattle.idb_databases.specs.Stores.{AreStores};
 ghost use Rattle.list_machine.specs.declared.steps.Step.TheVariants as steps;
 ghost use Rattle.list_machine.specs.Machine.{Turn};
 ghost use Rattle.list_machine.specs.Seeing.{state_map, pulled_reacts, pulled_writes};
-ghost use Rattle.tx_courses.specs.Courses.{state_with, course_in, live_in};
+ghost use Rattle.entry_runs.specs.Courses.{state_with, course_in, live_in};
 ghost use Rattle.handler_calls.specs.Cancelling.{cancel_error};
 ghost use Rattle.live_tx.specs.declared.standing.Standing.TheVariants as stands;
 ghost use Rattle.live_tx.specs.Telling.{TurnsInto, AbortsInto};
@@ -15,6 +15,7 @@ use crate::ending::{abort_all, abort_error, cancel_error, drop_entries};
 use crate::parts::LiveParts;
 use crate::standing::{Standing, standing_after};
 use crate::turning::turn;
+use entry_runs::{Course, CourseParts};
 use idb_base::NoMemory;
 use idb_calls::Events;
 use idb_keys::{Durability, ErrorName};
@@ -24,7 +25,6 @@ use list_machine::{Step, seeing_laws};
 use request_lists::{Handler, ListEntry, Phase, TxFront};
 use std::alloc::Global;
 use std::marker::Model;
-use tx_courses::{Course, CourseParts};
 
 /// A live transaction: its front, its stores, and what it did so far. Contracts see its number, its durability, the state of the list
 /// machine, what its requests were told, and where it stands. Where it goes on, each entry that waits has its handler and was
@@ -46,7 +46,7 @@ impl<T: Tables, H> Model for LiveTx<T, H> {
     ghost use Rattle.idb_keys.specs.KeyRange.{range_code};
     ghost use Rattle.indexed_records.specs.Contents.{records_code};
     ghost use Rattle.idb_databases.specs.Items.{database_code};
-    ghost use Rattle.tx_courses.specs.Courses.{state_with};
+    ghost use Rattle.entry_runs.specs.Courses.{state_with};
     ghost use Rattle.live_tx.specs.Live.{LiveState, StandsSo};
 
     ghost Value = { LiveState H };

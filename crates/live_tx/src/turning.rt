@@ -6,7 +6,7 @@ ghost use Rattle.list_machine.specs.Machine.{number_in};
 ghost use Rattle.list_machine.specs.Seeing.{pulled_reacts, pulled_writes};
 ghost use Rattle.placed_calls.specs.Fitting.{AreFit};
 ghost use Rattle.handler_calls.specs.Attending.{HasOwnCursor, IsAttended};
-ghost use Rattle.tx_courses.specs.Courses.{state_with, restored};
+ghost use Rattle.entry_runs.specs.Courses.{state_with, restored};
 ghost use Rattle.live_tx.specs.declared.next.Next.TheVariants as next;
 ghost use Rattle.live_tx.specs.Telling.{TurnsInto};
 ghost use Rattle.live_tx.specs.Live.{standing_after, IsReadyState, StandsSo};
@@ -15,6 +15,7 @@ ghost use Rattle.live_tx.specs.Turning.{error_of_phase, first_kind, CancelsInto,
 use crate::ending::abort_all;
 use crate::entries::{change_first, request_first, turn_taken};
 use crate::next::{Next, error_of_phase, first_kind};
+use entry_runs::Course;
 use handler_calls::{handle, verdict};
 use idb_calls::{Event, Events};
 use idb_keys::ErrorName;
@@ -23,7 +24,6 @@ use key_paths::conversion_laws;
 use list_machine::Step;
 use request_lists::{Handler, HandlerEnd, ListEntry, TxFront};
 use store_requests::leaving_laws;
-use tx_courses::Course;
 
 /// One turn. Where memory ran out nothing is known of the front, and of the stores that those before can be given back.
 pub(crate) fn turn<T: Tables, H: Handler>(

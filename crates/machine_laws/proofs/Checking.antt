@@ -26,7 +26,7 @@ use Rattle.idb_calls.specs.declared.calls.Call.{Call}
 use Rattle.idb_calls.specs.declared.calls.Call.TheVariants.{Add, Put, Get, GetKey, Count, GetAll, GetAllKeys, Delete, Clear, OpenCursor, OpenKeyCursor, Continue, ContinuePrimaryKey, Advance, Update, DeleteHere}
 use Rattle.idb_calls.specs.declared.calls.Target.{Target}
 use Rattle.idb_cursors.specs.Cursors.{CursorData, fresh_cursor}
-use Rattle.object_stores.specs.Storing.{ComesWithKey, HasKey}
+use Rattle.item_changes.specs.Storing.{ComesWithKey, HasKey}
 use Rattle.request_lists.specs.declared.entries.ListEntry.{ListEntry}
 use Rattle.request_lists.specs.declared.entries.ListEntry.TheVariants.{Request, Turn as CursorTurn, Change}
 use Rattle.request_lists.specs.Fronts.{Front, is_upgrade, is_active, is_read_only}

@@ -27,14 +27,14 @@ use Rattle.index_tables.specs.Rows.{RowTree}
 use Rattle.idb_calls.specs.declared.calls.Call.{Call}
 use Rattle.idb_calls.specs.declared.calls.Call.TheVariants.{Add, Put, Get, GetKey, Count, GetAll, GetAllKeys, Delete, Clear, OpenCursor, OpenKeyCursor, Continue, ContinuePrimaryKey, Advance, Update, DeleteHere}
 use Rattle.idb_calls.specs.declared.events.Event.{Event}
-use Rattle.object_stores.specs.Store.{Store}
-use Rattle.object_stores.specs.Storing.{Entry, entry_for, is_refused}
+use Rattle.item_changes.specs.Store.{Store}
+use Rattle.item_changes.specs.Storing.{Entry, entry_for, is_refused}
 use Rattle.item_changes.specs.Items.{Name, Database, is_same_name}
 use Rattle.item_changes.specs.Effects.{made_all}
 use Rattle.item_changes.proofs.Laws.{names_total, same_name}
-use Rattle.store_requests.specs.declared.changes.StoreNames.{StoreNames}
-use Rattle.store_requests.specs.Runs.{Ran, storing, deleting, entry_run, stored_run, refused_run}
-use Rattle.store_requests.specs.Leaving.{with_named_store}
+use Rattle.list_machine.specs.StoreNames.{StoreNames}
+use Rattle.list_machine.specs.Runs.{Ran, storing, deleting, entry_run, stored_run, refused_run}
+use Rattle.list_machine.specs.Leaving.{with_named_store}
 use Rattle.request_lists.specs.declared.entries.FrontCursor.{FrontCursor}
 use Rattle.request_lists.specs.declared.entries.ListEntry.{ListEntry}
 use Rattle.request_lists.specs.declared.entries.ListEntry.TheVariants.{Request, Turn as CursorTurn, Change}
@@ -48,9 +48,7 @@ use Rattle.list_machine.specs.Entries.{resulted, came, came_unless, done_on, don
 use Rattle.list_machine.specs.Machine.{Reacts, Writes, Handles, lent, returned, Turn, GoesOn, Begins, Goes, with_entries}
 use Rattle.list_machine.specs.Noting.{Noted, IsRaised, CanTake, IsChecked, Runnable, FirstRunnable}
 use Rattle.machine_laws.specs.Keeping.{info_named, AreApart, Shows, TakesValue, IsCheckedBy, IsPlaced, Waits, IsState}
-use Rattle.list_machine.proofs.Laws.{Below, stands, both_true}
-use Rattle.list_machine.proofs.Laws.{noted_fresh, turn_noted}
-use Rattle.list_machine.proofs.Laws.{AllCame, limit_all, unless_all, turn_all}
+use Rattle.list_machine.proofs.Laws.{Below, stands, both_true, noted_fresh, turn_noted, AllCame, limit_all, unless_all, turn_all}
 use Rattle.machine_laws.proofs.Checking.{KeyLaws, and_both, becomes_waits}
 use Rattle.machine_laws.proofs.Schemas.{has_that_id, found_named, either_way, when_false}
 use Rattle.machine_laws.proofs.Upgrading.{shows_changed, upgrade_step}

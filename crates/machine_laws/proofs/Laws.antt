@@ -10,3 +10,4 @@ pub use Rattle.machine_laws.proofs.Upgrading.{Stepped, upgrade_step}
 pub use Rattle.machine_laws.proofs.Keeping.{runnable, state_fresh, turn_state, run_state}
 pub use Rattle.machine_laws.proofs.Limiting.{limits_fresh, turn_limits}
 pub use Rattle.machine_laws.proofs.Scoping.{scope_fresh, turn_scope, goes_scope, scope_made, goes_in_scope}
+pub use Rattle.list_machine.proofs.Laws.{Below, both_true, goes_keeps}

@@ -28,16 +28,16 @@ use Rattle.idb_calls.specs.declared.calls.Call.{Call}
 use Rattle.idb_calls.specs.declared.calls.Call.TheVariants.{Add, Put, Get, GetKey, Count, GetAll, GetAllKeys, Delete, Clear, OpenCursor, OpenKeyCursor, Continue, ContinuePrimaryKey, Advance, Update, DeleteHere}
 use Rattle.idb_calls.specs.declared.events.Event.{Event}
 use Rattle.idb_calls.specs.Deltas.{DeltaTree, Put as DeltaPut, Current}
-use Rattle.object_stores.specs.Store.{Store}
-use Rattle.object_stores.specs.Storing.{Entry, entry_for, is_refused}
+use Rattle.item_changes.specs.Store.{Store}
+use Rattle.item_changes.specs.Storing.{Entry, entry_for, is_refused}
 use Rattle.item_changes.specs.Items.{Name, Database, is_same_name, stores_in}
 use Rattle.item_changes.specs.Effects.{OnStore, database_of, made_all}
 use Rattle.item_changes.specs.Scopes.{Scope, Access, Whole, access_of, is_among, allows, AllWithin}
 use Rattle.item_changes.proofs.Laws.{names_total, one_name, same_name, changed_elsewhere, within_both}
 use Rattle.query_ranges.specs.Queries.{wanted, is_query_refused, range_of_query}
-use Rattle.store_requests.specs.declared.changes.StoreNames.{StoreNames}
-use Rattle.store_requests.specs.Runs.{Ran, storing, deleting, clearing, entry_run, refused_run, stored_run, removals}
-use Rattle.store_requests.specs.Leaving.{with_named_store}
+use Rattle.list_machine.specs.StoreNames.{StoreNames}
+use Rattle.list_machine.specs.Runs.{Ran, storing, deleting, clearing, entry_run, refused_run, stored_run, removals}
+use Rattle.list_machine.specs.Leaving.{with_named_store}
 use Rattle.request_lists.specs.declared.entries.FrontCursor.{FrontCursor}
 use Rattle.request_lists.specs.declared.entries.ListEntry.{ListEntry}
 use Rattle.request_lists.specs.declared.entries.ListEntry.TheVariants.{Request, Turn as CursorTurn, Change}
@@ -52,9 +52,8 @@ use Rattle.list_machine.specs.Entries.{came, came_unless, resulted, done_on, don
 use Rattle.list_machine.specs.Machine.{Reacts, Writes, Handles, lent, returned, Turn, GoesOn, Begins, Goes, with_entries}
 use Rattle.machine_laws.specs.Limiting.{scope_in, changes_records, IsAllowed, StaysInScope}
 use Rattle.machine_laws.proofs.Checking.{no_cause, not_not, storing_causes, change_causes, none_or}
-use Rattle.list_machine.proofs.Laws.{Stands, stands, both_true}
+use Rattle.list_machine.proofs.Laws.{Stands, stands, both_true, AllCame, limit_all, unless_all, turn_all}
 use Rattle.machine_laws.proofs.Schemas.{itself}
-use Rattle.list_machine.proofs.Laws.{AllCame, limit_all, unless_all, turn_all}
 
 -- ---- what a reader's front takes
 module _ {D : Type 0} (front : Front D) where

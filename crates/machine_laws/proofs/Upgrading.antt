@@ -20,8 +20,8 @@ use Rattle.idb_schema.specs.declared.identities.StoreId.{StoreId}
 use Rattle.idb_schema.specs.Definitions.{store_named, index_named, is_list_path, takes_generator}
 use Rattle.idb_schema.specs.Schemas.{SchemaData, stores_of, indexes_at, place_of, store_of, new_entry, with_store as schema_with_store, without_store, with_index, without_index, entry_with_index, entry_without_index}
 use Rattle.version_upgrade.specs.Upgrades.{has_store, has_index, indexes_of, is_valid_path, schema_after}
-use Rattle.object_stores.specs.Store.{Store}
-use Rattle.object_stores.specs.Changed.{store_with_index}
+use Rattle.item_changes.specs.Store.{Store}
+use Rattle.item_changes.specs.Changed.{store_with_index}
 use Rattle.idb_calls.specs.Deltas.{DeltaTree, CreateStore, DropStore, CreateIndex, DropIndex}
 use Rattle.item_changes.specs.Items.{Name, Database, is_same_name, changed_at}
 use Rattle.item_changes.specs.Effects.{made_all, finds_all, gone, if_there, is_store_with, lacks_index_named, has_index_named, new_store, new_index, store_without_index_if, store_without_index_named}

@@ -15,8 +15,8 @@ use Rattle.idb_schema.specs.Schemas.{SchemaData, store_of}
 use Rattle.version_upgrade.specs.Upgrades.{refusal_of_schema, schema_after}
 use Rattle.idb_calls.specs.declared.calls.Call.{Call}
 use Rattle.idb_calls.specs.declared.calls.Call.TheVariants.{Add, Put}
-use Rattle.object_stores.specs.Store.{Store}
-use Rattle.object_stores.specs.Storing.{CanStore}
+use Rattle.item_changes.specs.Store.{Store}
+use Rattle.item_changes.specs.Storing.{CanStore}
 use Rattle.item_changes.specs.Items.{Name, Database, is_same_name, stores_in}
 use Rattle.request_lists.specs.declared.entries.ListEntry.{ListEntry}
 use Rattle.request_lists.specs.declared.entries.ListEntry.TheVariants.{Request, Turn, Change}

@@ -10,7 +10,7 @@ use Rattle.idb_keys.specs.declared.names.Mode.{Mode}
 use Rattle.idb_calls.specs.declared.calls.Call.{Call}
 use Rattle.idb_calls.specs.declared.calls.Call.TheVariants.{Add, Put, Delete, Clear, Update, DeleteHere}
 use Rattle.idb_calls.specs.declared.traces.TheConstants.{GREATEST_DELTA_COUNT}
-use Rattle.object_stores.specs.Store.{Store}
+use Rattle.item_changes.specs.Store.{Store}
 use Rattle.item_changes.specs.Items.{Name, stores_in}
 use Rattle.item_changes.specs.Scopes.{Scope, access_of, is_among, AllWithin}
 use Rattle.request_lists.specs.declared.entries.ListEntry.{ListEntry}

@@ -3,7 +3,7 @@ ghost use Rattle.std.specs.Prelude.{◌≡◌, ◌≤◌, true, false, List, len
 ghost use Rattle.std.specs.FinMap as finite;
 ghost use Rattle.idb_keys.specs.declared.names.Mode.{Mode};
 ghost use Rattle.idb_schema.specs.Schemas.{SchemaData};
-ghost use Rattle.object_stores.specs.Store.{Store};
+ghost use Rattle.item_changes.specs.Store.{Store};
 ghost use Rattle.item_changes.specs.Items.{Name, Database, stores_in};
 ghost use Rattle.item_changes.specs.Scopes.{access_of, is_among};
 ghost use Rattle.request_lists.specs.Fronts.{Front, new_front, is_upgrade_mode};

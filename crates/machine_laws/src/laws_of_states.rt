@@ -13,8 +13,8 @@ ghost use Rattle.list_machine.specs.Noting.{IsRaised};
 ghost use Rattle.machine_laws.specs.Keeping.{Shows, IsState};
 
 use key_paths::conversion_laws;
+use list_machine::leaving_laws;
 use request_lists::Handler;
-use store_requests::leaving_laws;
 
 /// The laws of states. What a state is to meet it meets as the body of its transaction left it, whether that body returned or
 /// threw, and after each turn. So at every moment all changes so far, applied to the database before, give the one now, and each

@@ -9,4 +9,4 @@ mod laws_of_states;
 
 pub use laws_of_limits::{limit_laws, reach_laws};
 pub use laws_of_states::state_laws;
-pub use store_requests::leaving_laws;
+pub use list_machine::leaving_laws;

@@ -12,17 +12,9 @@ use Rattle.name_queues.specs.declared.events.ClientEvent.TheVariants as event
 use Rattle.name_queues.specs.declared.turns.Turn.TheVariants as turn
 use Rattle.name_queues.proofs.Counts.{one_own, front_owed, told_owed}
 
-pub running_rests : (n : Named) → is_some n.running ≡ true → (turned n ≡ None) × (resting n ≡ turn.Running)
-running_rests n h = elim (n.running) as (λ o. is_some o ≡ true → (where_idle n o ≡ None) × (rests_by n o ≡ turn.Running)) [ None ↦ λ h. cc | Some ask ↦ λ h. (refl, refl) ] h
-
 no_front : (n : Named) (queue : List Ask) → slice_get queue 0 ≡ None → (by_front n queue ≡ None) × (rests_at n queue ≡ turn.Empty)
 no_front n [] e = (refl, refl)
 no_front n (ask ∷ asks) e = cc
-
-pub empty_rests : (n : Named) → n.running ≡ None → slice_get n.traffic.queue 0 ≡ None → (turned n ≡ None) × (resting n ≡ turn.Empty)
-empty_rests n e q =
-    let f = no_front n n.traffic.queue q in
-    (ap (where_idle n) e ∙ f.0, ap (rests_by n) e ∙ f.1)
 
 some_front : (n : Named) (queue : List Ask) (ask : Ask) → slice_get queue 0 ≡ Some ask → (by_front n queue ≡ at_stage n ask (drop 1 queue) (version_of n) n.stage) × (queue ≡ ask ∷ drop 1 queue) × (rests_at n queue ≡ waits_for n.traffic.conns)
 some_front n [] ask e = cc
@@ -44,13 +36,6 @@ pub change_room : (n : Named) (old : ℕ) (new : Option ℕ) (bs : List Box) →
 change_room n old new bs h = λ c. let a = h c in omega (arith, a, told_owed c old new n.traffic.conns)
 
 -- ---- the first of a list
-pub first_request : (asks : List Ask) → has_requests asks ≡ is_some (slice_get asks 0)
-first_request [] = refl
-first_request (ask ∷ asks) = refl
-
-pub first_conn : (es : List (ConnId × Conn)) → has_conns es ≡ is_some (option_map (λ e. e.0) (slice_get es 0))
-first_conn [] = refl
-first_conn (e ∷ es) = refl
 
 -- ---- one connection after the other is told
 pub tells_one : (old : ℕ) (new : Option ℕ) (x : ConnId × Conn) (es : List (ConnId × Conn)) → tells old new (x ∷ es) ≡ tells old new (x ∷ []) ++ tells old new es

@@ -8,11 +8,6 @@ drop_entry [] i x e = cc
 drop_entry (y ∷ ys) zero x e = let s : y ≡ x = cc in ap (λ z. z ∷ ys) s
 drop_entry (y ∷ ys) (suc i) x e = drop_entry ys i x e
 
-pub take_entry : {A : Type 0} (xs : List A) (i : ℕ) (x : A) → slice_get xs i ≡ Some x → take (suc i) xs ≡ take i xs ++ x ∷ []
-take_entry [] i x e = cc
-take_entry (y ∷ ys) zero x e = let s : y ≡ x = cc in ap (λ z. z ∷ []) s
-take_entry (y ∷ ys) (suc i) x e = ap (λ zs. y ∷ zs) (take_entry ys i x e)
-
 -- the first i were changed
 pub map_step : {A : Type 0} (f : A → A) (xs : List A) (i : ℕ) (x : A) → i < length xs → x ≡ get_or (map f (take i xs) ++ drop i xs) i x → slice_set (map f (take i xs) ++ drop i xs) i (f x) ≡ map f (take (suc i) xs) ++ drop (suc i) xs
 map_step f [] i x l e = absurd (omega arith)

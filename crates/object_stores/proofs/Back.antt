@@ -11,7 +11,7 @@ use Rattle.clone_values.specs.KeyTree.{KeyTree}
 use Rattle.idb_schema.specs.declared.definitions.StoreInfo.{StoreInfo}
 use Rattle.index_tables.specs.Rows.{RowTree}
 use Rattle.range_reads.specs.Contents.{rows_in_indexes}
-use Rattle.object_stores.specs.Store.{Content}
+use Rattle.store_contents.specs.Store.{Content}
 use Rattle.object_stores.proofs.Logged.{out_again, in_again, over_back, gone, there}
 
 module _ (old new : Content) (k : KeyTree) (v : Tree) (info : new.info ≡ old.info) where

@@ -18,8 +18,8 @@ use Rattle.idb_schema.proofs.Laws.{with_one_more, with_one_less}
 use Rattle.index_tables.specs.RecordRows.{Records}
 use Rattle.index_tables.specs.Unique.{broken_key, is_broken}
 use Rattle.range_reads.specs.Contents.{info_with_index, info_without_index}
-use Rattle.object_stores.specs.Store.{Content}
-use Rattle.object_stores.specs.IsStore.{IsStored, AreStored, IsStoreContent}
+use Rattle.store_contents.specs.Store.{Content}
+use Rattle.store_contents.specs.IsStore.{IsStored, AreStored, IsStoreContent}
 use Rattle.object_stores.proofs.Indexes.{fine_with, fine_without}
 use Rattle.object_stores.proofs.Off.{same_some, not_none}
 

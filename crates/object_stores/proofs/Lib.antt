@@ -1,12 +1,9 @@
 pub mod Logged
 pub mod Off
-pub mod Past
 pub mod Deleted
 pub mod Indexes
 pub mod Fine
 pub mod Back
 pub mod Marks
 pub mod ChangeLemmas
-pub mod ChoiceLemmas
-pub mod RecordChanges
 pub mod Laws

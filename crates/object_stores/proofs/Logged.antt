@@ -10,8 +10,8 @@ use Rattle.clone_values.specs.KeyTree.{KeyTree}
 use Rattle.key_order.specs.KeyOrder.{key_cmp}
 use Rattle.key_order.proofs.Laws.{key_cmp_total, key_cmp_same}
 use Rattle.index_tables.specs.RecordRows.{Records}
-use Rattle.object_stores.specs.Store.{Content, content_at}
-use Rattle.object_stores.specs.IsStore.{IsStoreContent}
+use Rattle.store_contents.specs.Store.{Content, content_at}
+use Rattle.store_contents.specs.IsStore.{IsStoreContent}
 use Rattle.object_stores.specs.Undo.{undone, past_of, IsUndoable, CanUndo, needed_records, needed_rows, HasSpare, AreRoomy}
 use Rattle.object_stores.specs.Parts.{content_in, log_in, past_in, IsSound}
 use Rattle.object_stores.specs.declared.changes.Change.{Change}

@@ -7,11 +7,11 @@
 --     settled_anew, settled_undone  the store at the last settle, where the past was forgotten or cut
 use Rattle.std.specs.Prelude.{◌≡◌, ℕ, ◌≤◌, Bool, List, [], length, take, refl}
 use Rattle.std.proofs.Common.{sym, ap, ◌∙◌, subst, arith}
-use Rattle.object_stores.specs.Store.{Content, Kept, unnumbered, numbered, content_at, at_mark, KeepsPlaces, KeepsPast}
-use Rattle.object_stores.specs.IsStore.{IsCurrent, IsStore}
+use Rattle.store_contents.specs.Store.{Content, Kept, unnumbered, numbered, content_at, at_mark, KeepsPlaces, KeepsPast}
+use Rattle.store_contents.specs.IsStore.{IsCurrent, IsStore}
 use Rattle.object_stores.specs.Parts.{content_in, log_in, past_in, kept_in, IsSound}
 use Rattle.object_stores.specs.declared.changes.Parts.{Parts}
-use Rattle.object_stores.proofs.Past.{at_end, cut_at}
+use Rattle.store_contents.proofs.Laws.{at_end, cut_at}
 use Rattle.object_stores.proofs.Logged.{fine_now, place_fine, place_auto}
 
 pub kept_same : (kept : Kept) → KeepsPast kept kept
@@ -71,7 +71,3 @@ module _ {T R W : Type 0} (parts : Parts T R W) (sound : IsSound parts) where
 -- without a past the store now is the one of the last settle
 pub settled_anew : (past : List Content) (c : Content) (n : ℕ) → past ≡ [] → numbered (content_at past c 0) n ≡ numbered c n
 settled_anew past c n none = ap (λ x. numbered x n) (ap (λ p. content_at p c 0) none ∙ at_end [] c)
-
--- the number of a new generator
-pub first_current : (auto : Bool) (n : ℕ) → n ≡ 1 → IsCurrent auto n
-first_current auto n e = ((omega (arith, e), omega (arith, e)), λ none. e)

@@ -10,7 +10,7 @@ use Rattle.index_tables.specs.RecordRows.{Records}
 use Rattle.idb_schema.specs.declared.definitions.IndexInfo.{IndexInfo}
 use Rattle.index_tables.specs.Rows.{RowTree}
 use Rattle.range_reads.specs.Contents.{rows_in_indexes}
-use Rattle.object_stores.specs.Store.{Content}
+use Rattle.store_contents.specs.Store.{Content}
 use Rattle.object_stores.specs.Undo.{undone, past_of, CanUndo, needed_records, needed_rows, HasSpare, AreRoomy}
 use Rattle.object_stores.specs.Parts.{content_in, log_in, past_in, IsSound, IsOff}
 use Rattle.object_stores.specs.declared.changes.Change.{Change}

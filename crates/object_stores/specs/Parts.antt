@@ -7,8 +7,8 @@
 --     IsOff                 the newest change was taken off the log, and is still to be undone
 use Rattle.std.specs.Prelude.{◌≡◌, ℕ, ◌+◌, ◌^◌, ◌<◌, ◌≤◌, List, ◌∷◌, length, reverse}
 use Rattle.std.specs.Vec.{vec_capacity}
-use Rattle.object_stores.specs.Store.{Content, Kept, content_at, numbered}
-use Rattle.object_stores.specs.IsStore.{IsCurrent}
+use Rattle.store_contents.specs.Store.{Content, Kept, content_at, numbered}
+use Rattle.store_contents.specs.IsStore.{IsCurrent}
 use Rattle.object_stores.specs.Undo.{past_of, CanUndo, needed_records, needed_rows, HasSpare, AreRoomy}
 use Rattle.object_stores.specs.declared.changes.Change.{Change}
 use Rattle.object_stores.specs.declared.changes.Parts.{Parts}

@@ -10,8 +10,8 @@ use Rattle.clone_values.specs.Tree.{Tree}
 use Rattle.clone_values.specs.View.{key_tree_of, tree_of}
 use Rattle.index_tables.specs.RecordRows.{index_rows}
 use Rattle.range_reads.specs.Contents.{rows_in_indexes, rows_among, row_sets, info_without_last, info_with_index_at}
-use Rattle.object_stores.specs.Store.{Content}
-use Rattle.object_stores.specs.IsStore.{IsStoreContent}
+use Rattle.store_contents.specs.Store.{Content}
+use Rattle.store_contents.specs.IsStore.{IsStoreContent}
 use Rattle.object_stores.specs.declared.changes.Change.{Change}
 use Rattle.object_stores.specs.declared.changes.Change.TheVariants as change
 

@@ -8,7 +8,7 @@ ghost use Rattle.clone_values.specs.View.{key_tree_of, tree_of};
 ghost use Rattle.index_tables.specs.Unique.{is_broken};
 ghost use Rattle.range_reads.specs.Contents.{rows_in_indexes, rows_among, IsRecordAt, IsGapOf};
 ghost use Rattle.range_reads.specs.Sameness.{gives_same_rows};
-ghost use Rattle.object_stores.specs.IsStore.{IsStored};
+ghost use Rattle.store_contents.specs.IsStore.{IsStored};
 ghost use Rattle.object_stores.specs.Parts.{content_in, past_in, IsSound, IsReady};
 ghost use Rattle.object_stores.specs.declared.changes.Change.TheVariants as change;
 

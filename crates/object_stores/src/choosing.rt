@@ -7,8 +7,8 @@ ghost use Rattle.idb_base.specs.declared.limits.TheConstants.{GREATEST_DEPTH};
 ghost use Rattle.clone_values.specs.KeyValues.{IsKey, key_depth};
 ghost use Rattle.key_paths.specs.Evaluation.{failure, extracted};
 ghost use Rattle.key_paths.specs.Injection.{can_inject, has_room_for, injected};
-ghost use Rattle.object_stores.specs.IsStore.{IsCurrent, IsStored};
-ghost use Rattle.object_stores.specs.Storing.{noted, in_line, key_found, generated, entry_for, CanInject, CanStore};
+ghost use Rattle.store_contents.specs.IsStore.{IsCurrent, IsStored};
+ghost use Rattle.store_contents.specs.Storing.{noted, in_line, key_found, generated, entry_for, CanInject, CanStore};
 ghost use Rattle.object_stores.specs.View.{entry_seen};
 
 use clone_values::{Key, Value};

@@ -3,8 +3,8 @@ ghost use Rattle.std.specs.Prelude.{◌≡◌, ◌<◌, slice_get, Some, OnOk, O
 ghost use Rattle.std.specs.FinMap as finite;
 ghost use Rattle.clone_values.specs.KeyTree.{KeyTree};
 ghost use Rattle.clone_values.specs.Tree.{Tree};
-ghost use Rattle.object_stores.specs.Store.{KeepsPlaces};
-ghost use Rattle.object_stores.specs.Changed.{outside_range};
+ghost use Rattle.store_contents.specs.Store.{KeepsPlaces};
+ghost use Rattle.store_contents.specs.Changed.{outside_range};
 ghost use Rattle.object_stores.specs.Parts.{content_in, past_in, IsSound};
 
 use crate::changes::Parts;

@@ -12,6 +12,11 @@ pub enum StoreError {
 }
 
 impl From<NoMemory> for StoreError {
+    ghost use Rattle.std.specs.Prelude.{◌≡◌};
+    ghost use Rattle.object_stores.specs.declared.error.StoreError.TheVariants.{NoMemory};
+
+    ghost from_gives = { λ _ e. e ≡ NoMemory };
+
     fn from(_e: NoMemory) -> StoreError {
         StoreError::NoMemory
     }

@@ -4,7 +4,7 @@ ghost use Rattle.idb_schema.specs.Definitions.{IsIndexInfo, index_named};
 ghost use Rattle.range_reads.specs.Causes.{IsCause};
 ghost use Rattle.range_reads.specs.Contents.{info_with_index, info_without_index};
 ghost use Rattle.index_tables.specs.Unique.{broken_key};
-ghost use Rattle.object_stores.specs.Store.{KeepsPlaces};
+ghost use Rattle.store_contents.specs.Store.{KeepsPlaces};
 ghost use Rattle.object_stores.specs.Parts.{content_in, past_in, IsSound, IsReady};
 
 use crate::changes::{Change, Parts};

@@ -17,6 +17,7 @@ mod undoing;
 mod whole;
 
 pub use error::StoreError;
-pub use meanings::{mark_laws, store_laws};
+pub use meanings::mark_laws;
 pub use range_reads::IndexError;
 pub use store::{Mark, StoreVersion};
+pub use store_contents::store_laws;

@@ -7,9 +7,9 @@ ghost use Rattle.clone_values.specs.Tree.{Tree};
 ghost use Rattle.index_tables.specs.Unique.{is_broken};
 ghost use Rattle.range_reads.specs.Contents.{rows_in_indexes, rows_among, IsRecordAt, IsGapOf};
 ghost use Rattle.range_reads.specs.Sameness.{gives_same_rows};
-ghost use Rattle.object_stores.specs.IsStore.{IsStored};
-ghost use Rattle.object_stores.specs.Store.{KeepsPlaces};
-ghost use Rattle.object_stores.specs.Storing.{content_with, is_refused};
+ghost use Rattle.store_contents.specs.IsStore.{IsStored};
+ghost use Rattle.store_contents.specs.Store.{KeepsPlaces};
+ghost use Rattle.store_contents.specs.Storing.{content_with, is_refused};
 ghost use Rattle.object_stores.specs.Parts.{content_in, past_in, IsSound, IsReady};
 
 use crate::changes::Parts;

@@ -10,11 +10,11 @@ ghost use Rattle.range_reads.specs.Causes.{IsCause};
 ghost use Rattle.range_reads.specs.Reading.{selected, limited, primary_keys, values_in, first_primary, first_value, keys_seen, value_seen};
 ghost use Rattle.index_tables.specs.View.{rows_in};
 ghost use Rattle.range_reads.specs.View.{record_seen, own_rows};
-ghost use Rattle.object_stores.specs.Changed.{without_range, cleared, with_current, store_with_index, store_without_index};
-ghost use Rattle.object_stores.specs.IsStore.{IsStore, IsCurrent};
-ghost use Rattle.object_stores.specs.Showing.{shown_in, chosen_in};
-ghost use Rattle.object_stores.specs.Store.{at_mark, KeepsPast};
-ghost use Rattle.object_stores.specs.Storing.{CanStore, stored_as, stored, refused};
+ghost use Rattle.store_contents.specs.Changed.{without_range, cleared, with_current, store_with_index, store_without_index};
+ghost use Rattle.store_contents.specs.IsStore.{IsStore, IsCurrent};
+ghost use Rattle.store_contents.specs.Showing.{shown_in, chosen_in};
+ghost use Rattle.store_contents.specs.Store.{at_mark, KeepsPast};
+ghost use Rattle.store_contents.specs.Storing.{CanStore, stored_as, stored, refused};
 
 use crate::changes::Parts;
 use crate::deleting::delete;
@@ -55,7 +55,7 @@ pub struct StoreVersion<T: Tables> {
 impl<T: Tables> Model for StoreVersion<T> {
     ghost use Rattle.std.specs.Coded.{codes};
     ghost use Rattle.range_reads.specs.Contents.{records_code};
-    ghost use Rattle.object_stores.specs.Store.{Kept};
+    ghost use Rattle.store_contents.specs.Store.{Kept};
     ghost use Rattle.object_stores.specs.Parts.{kept_in, IsVersion};
 
     ghost Value = { Kept };

@@ -3,7 +3,7 @@ ghost use Rattle.std.specs.Prelude.{◌≡◌, ◌+◌, ◌<◌, ◌≤◌, [], 
 ghost use Rattle.std.specs.FinMap as finite;
 ghost use Rattle.clone_values.specs.View.{key_tree_of, tree_of};
 ghost use Rattle.range_reads.specs.Contents.{info_without_last, info_with_index_at};
-ghost use Rattle.object_stores.specs.Store.{content_at};
+ghost use Rattle.store_contents.specs.Store.{content_at};
 ghost use Rattle.object_stores.specs.Undo.{undone};
 ghost use Rattle.object_stores.specs.Parts.{content_in, past_in, IsSound, IsOff};
 ghost use Rattle.object_stores.specs.declared.changes.Change.TheVariants as change;

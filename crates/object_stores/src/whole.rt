@@ -2,9 +2,9 @@
 ghost use Rattle.std.specs.Prelude.{◌≡◌, [], option_map, IfOk, IfSome, IfNone, OnOk, OnErr};
 ghost use Rattle.std.specs.FinMap as finite;
 ghost use Rattle.clone_values.specs.View.{key_tree_of, tree_of};
-ghost use Rattle.object_stores.specs.IsStore.{IsStoreContent, IsCurrent};
-ghost use Rattle.object_stores.specs.Store.{KeepsPlaces, numbered};
-ghost use Rattle.object_stores.specs.Storing.{CanStore, stored_as, stored, refused};
+ghost use Rattle.store_contents.specs.IsStore.{IsStoreContent, IsCurrent};
+ghost use Rattle.store_contents.specs.Store.{KeepsPlaces, numbered};
+ghost use Rattle.store_contents.specs.Storing.{CanStore, stored_as, stored, refused};
 ghost use Rattle.object_stores.specs.Parts.{content_in, past_in, IsSound};
 
 use crate::changes::Parts;

@@ -22,8 +22,8 @@ use Rattle.idb_calls.specs.declared.traces.Outcome.TheVariants.{Committed}
 use Rattle.idb_calls.specs.declared.traces.TxTrace.{TxTrace}
 use Rattle.idb_desk.specs.Durabilities.{durability_drawn}
 use Rattle.idb_desk.specs.Refusals.{is_allowed, has_some}
-use Rattle.idb_desk.specs.declared.steps.DeskStep.{DeskStep}
-use Rattle.idb_desk.specs.declared.steps.DeskStep.TheVariants as step
+use Rattle.desk_steps.specs.declared.steps.DeskStep.{DeskStep}
+use Rattle.desk_steps.specs.declared.steps.DeskStep.TheVariants as step
 use Rattle.idb_desk.specs.Steps.{DeskRun, desk_run, with_step, IsDeskRun}
 use Rattle.item_changes.specs.Items.{Name, Database, Items}
 use Rattle.item_changes.specs.Effects.{applied_all}
@@ -40,24 +40,22 @@ use Rattle.script_statements.specs.declared.script.ScriptSession.{ScriptSession}
 use Rattle.script_runs.specs.declared.notes.Note.{Note}
 use Rattle.script_handlers.specs.Handling.{Script, ScriptReacts, ScriptWrites}
 use Rattle.client_machine.specs.ClientStates.{ClientTx, tx_at}
-use Rattle.client_tasks.specs.Steps.{can_finish, FinishesInto}
+use Rattle.office_scenes.specs.Steps.{can_finish, FinishesInto}
 use Rattle.legal_sessions.specs.Legal.{is_fault, is_in_doubt, may_write, record_of_entry, records_logged, commits_at}
 use Rattle.session_databases.specs.Parts.{without_part, AreSoundDatabases}
 use Rattle.session_states.specs.Sessions.{SeatNow, SessionNow, with_fault}
 use Rattle.session_states.specs.Telling.{RunningTx}
 use Rattle.session_states.specs.UnderWay.{IsInStep, IsUnderWay}
 use Rattle.session_states.specs.Moves.{entry_ran}
-use Rattle.session_limits.specs.Fitting.{IsFitting}
-use Rattle.session_limits.specs.Showing.{IsShown, IsSoundKept}
-use Rattle.client_tasks.specs.Offices.{OfficeState}
+use Rattle.office_scenes.specs.Fitting.{IsFitting}
+use Rattle.office_scenes.specs.Showing.{IsShown, IsSoundKept}
+use Rattle.office_scenes.specs.Offices.{OfficeState}
 use Rattle.session_txs.specs.Running.{PartState, LeavesItsPart, IsDeletionTrace}
-use Rattle.office_moves.specs.Measures.{beyond_memory}
-use Rattle.office_moves.specs.Scenes.{DoneNow, is_open_end, scene_of, seat_on, LeadsTo, StandsOn, IsAtWork, record_if, with_finish_of, done_with_trace, doubted_with_trace}
-use Rattle.office_moves.specs.Running.{begun_run, outcome_in_doubt, left_items, LeavesSound, EndLeads, DoubtLeads, IsRunSo, IsClosed, FinishedWith, HoldsTx}
-use Rattle.office_moves.specs.Stopping.{TellsOf}
-use Rattle.office_moves.proofs.Laws.{FinishLaw, DoubtLaw, FaultLaws}
-use Rattle.office_moves.proofs.Logging.{LogLaws, finish_logged}
-use Rattle.office_moves.proofs.Standing.{FinishesLaw, AbortedLaw, allowed_finish, finish_can}
+use Rattle.office_scenes.specs.Measures.{beyond_memory}
+use Rattle.office_scenes.specs.Scenes.{DoneNow, is_open_end, scene_of, seat_on, LeadsTo, StandsOn, IsAtWork, record_if, with_finish_of, done_with_trace, doubted_with_trace}
+use Rattle.office_scenes.specs.Running.{begun_run, outcome_in_doubt, left_items, LeavesSound, EndLeads, DoubtLeads, IsRunSo, IsClosed, FinishedWith, HoldsTx}
+use Rattle.office_scenes.specs.Stopping.{TellsOf}
+use Rattle.office_scenes.proofs.Laws.{FinishLaw, DoubtLaw, FaultLaws, LogLaws, finish_logged, FinishesLaw, AbortedLaw, allowed_finish, finish_can}
 use Rattle.office_moves.proofs.Leading.{DurableLaw, DurableFaultLaw, finish_leads, doubt_leads}
 use Rattle.office_moves.proofs.Turning.{commit_is}
 

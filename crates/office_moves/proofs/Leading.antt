@@ -10,8 +10,8 @@ use Rattle.std.proofs.Common.{◌≡◌, ◌≤◌, ℕ, Bool, true, false, ◌&
 use Rattle.idb_schema.specs.Schemas.{SchemaData}
 use Rattle.idb_calls.specs.Deltas.{DeltaTree}
 use Rattle.idb_calls.specs.declared.traces.Outcome.{Outcome}
-use Rattle.idb_desk.specs.declared.steps.DeskStep.{DeskStep}
-use Rattle.idb_desk.specs.declared.steps.DeskStep.TheVariants as step
+use Rattle.desk_steps.specs.declared.steps.DeskStep.{DeskStep}
+use Rattle.desk_steps.specs.declared.steps.DeskStep.TheVariants as step
 use Rattle.log_history.specs.Batching.{Commit, is_strict}
 use Rattle.idb_desk.specs.Durabilities.{durability_drawn}
 use Rattle.idb_desk.specs.Steps.{DeskRun, desk_run, with_step, IsDeskRun}
@@ -37,15 +37,13 @@ use Rattle.session_states.specs.Sessions.{SeatNow, SessionNow, with_seat, with_f
 use Rattle.session_states.specs.Telling.{RunningTx}
 use Rattle.session_states.specs.UnderWay.{IsInStep}
 use Rattle.session_states.specs.Moves.{Moves, entry_ran, entry_dropped}
-use Rattle.client_tasks.specs.Offices.{OfficeState}
-use Rattle.client_tasks.specs.Steps.{RunsTaskInto, TakesEventInto, StartsInto, TurnInto, FinishesInto, FinishesUnstartedInto, told_take}
-use Rattle.session_limits.specs.Showing.{IsSoundKept}
-use Rattle.office_moves.specs.Scenes.{DoneNow, Scene, IsDriven, scene_of, seat_on, IsSceneAt, with_scene, LeadsTo, KeepsOn, record_if, with_finish_of, with_number}
-use Rattle.office_moves.specs.Running.{begun_run, one_turn_more, outcome_in_doubt, left_items, LeavesSound}
-use Rattle.office_moves.specs.Measures.{tasks_left}
-use Rattle.office_moves.proofs.Laws.{TaskLaw, EventLaw, StartLaw, TurnLaw, FinishLaw, CancelLaw, HostLaw, DoubtLaw, FaultLaws, never_commits}
-use Rattle.office_moves.proofs.Lessening.{posted_left, ends_left, left_same, left_still, task_less, event_more, lt_le}
-use Rattle.office_moves.proofs.Places.{get_here, set_same, set_twice}
+use Rattle.office_scenes.specs.Offices.{OfficeState}
+use Rattle.office_scenes.specs.Steps.{RunsTaskInto, TakesEventInto, StartsInto, TurnInto, FinishesInto, FinishesUnstartedInto, told_take}
+use Rattle.office_scenes.specs.Showing.{IsSoundKept}
+use Rattle.office_scenes.specs.Scenes.{DoneNow, Scene, IsDriven, scene_of, seat_on, IsSceneAt, with_scene, LeadsTo, KeepsOn, record_if, with_finish_of, with_number}
+use Rattle.office_scenes.specs.Running.{begun_run, one_turn_more, outcome_in_doubt, left_items, LeavesSound}
+use Rattle.office_scenes.specs.Measures.{tasks_left}
+use Rattle.office_scenes.proofs.Laws.{TaskLaw, EventLaw, StartLaw, TurnLaw, FinishLaw, CancelLaw, HostLaw, DoubtLaw, FaultLaws, never_commits, posted_left, ends_left, left_same, left_still, task_less, event_more, lt_le, get_here, set_same, set_twice}
 
 -- ---- by none, and by several
 abbrev parts_of : SessionNow → SessionNow

@@ -1,9 +1,4 @@
-pub mod Places
-pub mod Logging
-pub mod Laws
-pub mod Lessening
 pub mod Leading
-pub mod Standing
 pub mod Turning
 pub mod AtEnd
 pub mod Unstarted

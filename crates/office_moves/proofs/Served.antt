@@ -7,13 +7,13 @@ use Rattle.name_queues.specs.Mails.{events_of}
 use Rattle.idb_desk.specs.Refusals.{has_some}
 use Rattle.idb_desk.specs.Steps.{desk_run, IsDeskRun, event_for}
 use Rattle.script_runs.specs.declared.notes.Note.{Note}
-use Rattle.client_tasks.specs.Offices.{OfficeState}
-use Rattle.client_tasks.specs.Steps.{Whether, StaysAsIs, RunsTaskInto, TakesEventInto}
+use Rattle.office_scenes.specs.Offices.{OfficeState}
+use Rattle.office_scenes.specs.Steps.{Whether, StaysAsIs, RunsTaskInto, TakesEventInto}
 use Rattle.office_moves.specs.Moving.{has_work}
-use Rattle.office_moves.specs.Measures.{left_to}
-use Rattle.office_moves.specs.Scenes.{KeepsOn}
+use Rattle.office_scenes.specs.Measures.{left_to}
+use Rattle.office_scenes.specs.Scenes.{KeepsOn}
 use Rattle.office_moves.specs.Serving.{ServedInto}
-use Rattle.office_moves.proofs.Laws.{TaskLaw, EventLaw}
+use Rattle.office_scenes.proofs.Laws.{TaskLaw, EventLaw}
 use Rattle.office_moves.proofs.Leading.{task_keeps, event_keeps}
 use Rattle.office_moves.proofs.Turning.{keeps_still}
 

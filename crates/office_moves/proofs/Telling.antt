@@ -7,9 +7,9 @@ use Rattle.std.proofs.Common.{◌≡◌, ◌⊎◌, List, Option, Some, Result, 
 use Rattle.item_changes.specs.Items.{Items}
 use Rattle.script_runs.specs.declared.notes.Note.{Note}
 use Rattle.session_states.specs.Telling.{RunningTx}
-use Rattle.client_tasks.specs.Offices.{OfficeState}
-use Rattle.office_moves.specs.Scenes.{DoneNow, scene_of, LeadsTo}
-use Rattle.office_moves.specs.Stopping.{TellsNoMore, TellsOf, StopsTelling}
+use Rattle.office_scenes.specs.Offices.{OfficeState}
+use Rattle.office_scenes.specs.Scenes.{DoneNow, scene_of, LeadsTo}
+use Rattle.office_scenes.specs.Stopping.{TellsNoMore, TellsOf, StopsTelling}
 use Rattle.office_moves.proofs.Leading.{leads_again}
 
 pub at_err : {T E P : Type 0} (r : Result T E) → P → OnErr r P

@@ -33,17 +33,16 @@ use Rattle.script_handlers.specs.Handling.{Script, ScriptReacts, ScriptWrites}
 use Rattle.client_ties.specs.Unfinished.{least_of}
 use Rattle.client_parts.specs.declared.begun.BegunBody.{BegunBody}
 use Rattle.client_parts.specs.Holding.{body_seen}
-use Rattle.client_tasks.specs.Steps.{Whether, can_start, StartsInto, TurnInto}
+use Rattle.office_scenes.specs.Steps.{Whether, can_start, StartsInto, TurnInto}
 use Rattle.legal_sessions.specs.Legal.{is_in_doubt, may_write}
 use Rattle.session_databases.specs.Parts.{without_part}
 use Rattle.session_states.specs.Telling.{RunningTx}
-use Rattle.client_tasks.specs.Offices.{OfficeState}
+use Rattle.office_scenes.specs.Offices.{OfficeState}
 use Rattle.session_txs.specs.Running.{SessionTxState, PartState, begun_tx, scope_of_scripted, part_left, with_one_turn, ended_tx, RanSo, DoubtedRun}
-use Rattle.office_moves.specs.Measures.{beyond_memory, room_left}
-use Rattle.office_moves.specs.Scenes.{DoneNow, scene_of, LeadsTo, KeepsOn}
-use Rattle.office_moves.specs.Running.{begun_run, one_turn_more, run_seen, outcome_in_doubt, TurnLeads, IsClosed, ClosesAtEnd, RunsOnInto, HasSureEnd, FinishedWith, HoldsBegun, IsDue, IsDropped}
-use Rattle.office_moves.proofs.Laws.{StartLaw, TurnLaw}
-use Rattle.office_moves.proofs.Standing.{HeldStartedLaw, not_begun, holds_started}
+use Rattle.office_scenes.specs.Measures.{beyond_memory, room_left}
+use Rattle.office_scenes.specs.Scenes.{DoneNow, scene_of, LeadsTo, KeepsOn}
+use Rattle.office_scenes.specs.Running.{begun_run, one_turn_more, run_seen, outcome_in_doubt, TurnLeads, IsClosed, ClosesAtEnd, RunsOnInto, HasSureEnd, FinishedWith, HoldsBegun, IsDue, IsDropped}
+use Rattle.office_scenes.proofs.Laws.{StartLaw, TurnLaw, HeldStartedLaw, not_begun, holds_started}
 use Rattle.office_moves.proofs.Leading.{leads_still, leads_again, start_leads, turn_leads}
 
 -- ---- the client's steps

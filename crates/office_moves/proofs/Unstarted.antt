@@ -1,7 +1,7 @@
 -- A transaction finishes without starting.
 --     body_held, held_there its parts tell its body
 --     never_taken           it can be taken out
---     scripted_ends, deletion_ends  it is told so
+--     deletion_ends         it is told so
 --     dropped_goes          what its finish leads to
 --     never_committed, drop_allowed it doesn't commit, and the desk lets it finish
 --     noted_leads           as the book has it then
@@ -20,12 +20,12 @@ use Rattle.script_runs.specs.declared.notes.Note.{Note}
 use Rattle.script_handlers.specs.Handling.{Script, ScriptReacts, ScriptWrites}
 use Rattle.client_machine.specs.ClientStates.{ClientTx, tx_at}
 use Rattle.client_machine.specs.ClientSteps.{may_begin}
-use Rattle.client_tasks.specs.Steps.{FinishesUnstartedInto}
-use Rattle.client_tasks.specs.Offices.{OfficeState}
+use Rattle.office_scenes.specs.Steps.{FinishesUnstartedInto}
+use Rattle.office_scenes.specs.Offices.{OfficeState}
 use Rattle.session_txs.specs.Running.{EndsUnstarted, IsDroppedDeletion}
-use Rattle.office_moves.specs.Scenes.{DoneNow, scene_of, LeadsTo, with_number}
-use Rattle.office_moves.specs.Running.{IsDropped, EndsBody, DropLeads}
-use Rattle.office_moves.proofs.Laws.{CancelLaw, HostLaw}
+use Rattle.office_scenes.specs.Scenes.{DoneNow, scene_of, LeadsTo, with_number}
+use Rattle.office_scenes.specs.Running.{IsDropped, EndsBody, DropLeads}
+use Rattle.office_scenes.proofs.Laws.{CancelLaw, HostLaw}
 use Rattle.office_moves.proofs.Leading.{DurableLaw, drop_leads}
 use Rattle.office_moves.proofs.Turning.{lines_behind}
 
@@ -42,12 +42,6 @@ no_more : (xs : List Note) → xs ++ [] ≡ xs
 no_more [] = refl
 no_more (x ∷ xs) = ap (λ ys. x ∷ ys) (no_more xs)
 
-pub scripted_ends : (body : ScriptedBody Script) (outcome : Outcome) (before after : List Note) → EndsUnstarted body (not (is_aborted_phase (front_left body).phase)) outcome before after → EndsBody (Scripted body) outcome before after
-scripted_ends body outcome before after e = record {
-  turns = e.lines ∷ [];
-  by_host = not (is_aborted_phase (front_left body).phase);
-  never = e.never;
-  added = e.added ∙ ap (λ ls. before ++ ls) (sym (no_more e.lines));
 }
 
 pub deletion_ends : (number : ℕ) (name : Name) (trace : TxTrace) (notes : List Note) → IsDroppedDeletion number trace → EndsBody (Deletion name) trace.outcome notes notes
@@ -66,10 +60,6 @@ ends_held body begun outcome before after held e = subst (λ o. IfSome o (λ b. 
 pub never_committed : (body : TxBody Script) (outcome : Outcome) (before after : List Note) → EndsBody body outcome before after → is_committed outcome ≡ false
 never_committed (Scripted body) outcome before after e = ap is_committed e.never.cancelled.ended
 never_committed (Deletion name) outcome before after e = ap is_committed e.never.cancelled.2
-
-pub never_has : (body : TxBody Script) (outcome : Outcome) (before after : List Note) → EndsBody body outcome before after → has_committed outcome ≡ false
-never_has (Scripted body) outcome before after e = ap has_committed e.never.cancelled.ended
-never_has (Deletion name) outcome before after e = ap has_committed e.never.cancelled.2
 
 -- ---- what its finish leads to
 abbrev pub NotBegunLaw : Type 0

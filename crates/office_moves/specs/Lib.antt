@@ -1,9 +1,9 @@
-pub mod Measures
-pub mod Scenes
+pub use Rattle.office_scenes.specs.Measures
+pub use Rattle.office_scenes.specs.Scenes
 pub mod Serving
-pub mod Running
-pub mod Stopping
+pub use Rattle.office_scenes.specs.Running
+pub use Rattle.office_scenes.specs.Stopping
 pub mod Moving
-pub use Rattle.session_limits.specs.Fitting
-pub use Rattle.session_limits.specs.Showing
-pub use Rattle.client_tasks.specs.Offices
+pub use Rattle.office_scenes.specs.Fitting
+pub use Rattle.office_scenes.specs.Showing
+pub use Rattle.office_scenes.specs.Offices

@@ -7,7 +7,7 @@ use Rattle.idb_desk.specs.Desks.{DeskState}
 use Rattle.idb_desk.specs.Refusals.{has_some}
 use Rattle.idb_desk.specs.Steps.{DeskRun, desk_run}
 use Rattle.client_machine.specs.ClientStates.{ClientState}
-use Rattle.office_moves.specs.Running.{IsDue}
+use Rattle.office_scenes.specs.Running.{IsDue}
 
 abbrev pub has_work : DeskState → ClientState → Bool
 has_work d c = has_some c.tasks || has_some (events_of d.queues.mails c.number)

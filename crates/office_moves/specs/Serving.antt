@@ -4,8 +4,8 @@ use Rattle.std.specs.Prelude.{List, is_some}
 use Rattle.idb_desk.specs.Refusals.{has_some}
 use Rattle.idb_desk.specs.Steps.{desk_run, event_for}
 use Rattle.script_runs.specs.declared.notes.Note.{Note}
-use Rattle.client_tasks.specs.Offices.{OfficeState}
-use Rattle.client_tasks.specs.Steps.{Whether, StaysAsIs, RunsTaskInto, TakesEventInto}
+use Rattle.office_scenes.specs.Offices.{OfficeState}
+use Rattle.office_scenes.specs.Steps.{Whether, StaysAsIs, RunsTaskInto, TakesEventInto}
 
 abbrev pub ServedInto : OfficeState → List Note → OfficeState → List Note → Type 0
 ServedInto old before new after = Whether (has_some old.client.tasks)

@@ -6,9 +6,9 @@ ghost use Rattle.log_history.specs.Kept.{Dropped};
 ghost use Rattle.tx_book.specs.Entries.{CanBeLogged, has_committed};
 ghost use Rattle.session_books.specs.States.{commits_apply};
 ghost use Rattle.session_books.specs.Entering.{is_commit};
-ghost use Rattle.office_moves.specs.Measures.{beyond_memory};
-ghost use Rattle.office_moves.specs.Running.{BookGoesOn};
-ghost use Rattle.office_moves.specs.Scenes.{done_of_book, is_open_end, with_number, done_with_trace, doubted_with_trace};
+ghost use Rattle.office_scenes.specs.Measures.{beyond_memory};
+ghost use Rattle.office_scenes.specs.Running.{BookGoesOn};
+ghost use Rattle.office_scenes.specs.Scenes.{done_of_book, is_open_end, with_number, done_with_trace, doubted_with_trace};
 
 use disk_trait::Disk;
 use idb_base::NoMemory;

@@ -13,6 +13,5 @@ mod running;
 mod serving;
 mod settling;
 
-pub use client_tasks::Office;
 pub use moving::make_move;
-pub use session_limits::{fitting_laws, showing_laws};
+pub use office_scenes::{Office, fitting_laws, showing_laws};

@@ -2,22 +2,22 @@
 ghost use Rattle.std.specs.Prelude.{◌≡◌, ◌<◌, ◌+◌, true, Some, None, OnOk, OnErr};
 ghost use Rattle.log_history.specs.Kept.{Dropped};
 ghost use Rattle.serial_order.specs.FinishEntries.{Scripted};
-ghost use Rattle.office_moves.specs.Measures.{left_to, room_left};
+ghost use Rattle.office_scenes.specs.Measures.{left_to, room_left};
 ghost use Rattle.office_moves.specs.Moving.{IsMoveOf};
-ghost use Rattle.office_moves.specs.Running.{begun_run, FinishedWith, HoldsBegun, IsDue, BookGoesOn};
-ghost use Rattle.office_moves.specs.Stopping.{StopsTelling};
-ghost use Rattle.office_moves.specs.Scenes.{done_of_book, is_open_end, scene_of, LeadsTo, StandsOn};
+ghost use Rattle.office_scenes.specs.Running.{begun_run, FinishedWith, HoldsBegun, IsDue, BookGoesOn};
+ghost use Rattle.office_scenes.specs.Stopping.{StopsTelling};
+ghost use Rattle.office_scenes.specs.Scenes.{done_of_book, is_open_end, scene_of, LeadsTo, StandsOn};
 
 use crate::dropping::drop_tx;
 use crate::running::{close_scripted, start_tx};
 use crate::serving::serve;
 use crate::settling::{settle_deletion, settle_tx};
 use client_parts::{BegunBody, BegunTx};
-use client_tasks::Office;
 use disk_trait::Disk;
 use edge_traits::Gate;
 use idb_base::NoMemory;
 use index_tables::Tables;
+use office_scenes::Office;
 use script_runs::Notes;
 use session_books::SessionBook;
 use session_databases::SessionDatabases;

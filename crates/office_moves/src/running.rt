@@ -7,23 +7,22 @@ ghost use Rattle.script_runs.specs.declared.notes.Note.{Note};
 ghost use Rattle.client_parts.specs.Holding.{body_seen};
 ghost use Rattle.tx_book.specs.Entries.{CanBeLogged};
 ghost use Rattle.session_books.specs.Entering.{is_commit};
-ghost use Rattle.office_moves.specs.Measures.{beyond_memory};
-ghost use Rattle.office_moves.specs.Scenes.{DoneNow, scene_of, LeadsTo, StandsOn};
-ghost use Rattle.office_moves.specs.Running.{begun_run, TurnLeads, RunsOnInto, HasSureEnd, HoldsTx, HoldsBegun, IsDue, IsDropped, ClosesAtEnd};
+ghost use Rattle.office_scenes.specs.Measures.{beyond_memory};
+ghost use Rattle.office_scenes.specs.Scenes.{DoneNow, scene_of, LeadsTo, StandsOn};
+ghost use Rattle.office_scenes.specs.Running.{begun_run, TurnLeads, RunsOnInto, HasSureEnd, HoldsTx, HoldsBegun, IsDue, IsDropped, ClosesAtEnd};
 
 use crate::entering::timed;
 use crate::serving::{is_run, run_tasks};
 use client_parts::{BegunBody, BegunTx};
-use client_tasks::Office;
 use edge_traits::Gate;
 use idb_base::NoMemory;
 use index_tables::Tables;
 use list_machine::Step;
+use office_scenes::{
+    Office, fitting_laws, limit_laws, resting_laws, showing_laws, telling_laws, version_laws,
+};
 use script_runs::Notes;
 use session_databases::SessionDatabases;
-use session_limits::{
-    fitting_laws, limit_laws, resting_laws, showing_laws, telling_laws, version_laws,
-};
 use session_states::step_laws;
 use session_txs::{SessionTx, TxEnd, begin};
 use std::alloc::Global;

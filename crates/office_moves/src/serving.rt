@@ -3,18 +3,17 @@ ghost use Rattle.std.specs.Prelude.{◌≡◌, ◌<◌, ℕ, not, ◌&&◌, true
 ghost use Rattle.idb_desk.specs.Steps.{IsDeskRun, desk_run, event_for};
 ghost use Rattle.idb_desk.specs.Refusals.{has_some};
 ghost use Rattle.session_states.specs.Telling.{RunningTx};
-ghost use Rattle.client_tasks.specs.Steps.{Whether, StaysAsIs, RunsTaskInto, TakesEventInto};
-ghost use Rattle.office_moves.specs.Measures.{beyond_memory, left_to};
+ghost use Rattle.office_scenes.specs.Steps.{Whether, StaysAsIs, RunsTaskInto, TakesEventInto};
+ghost use Rattle.office_scenes.specs.Measures.{beyond_memory, left_to};
 ghost use Rattle.office_moves.specs.Moving.{has_work};
-ghost use Rattle.office_moves.specs.Running.{HoldsTx};
-ghost use Rattle.office_moves.specs.Scenes.{KeepsOn, IsAtWork};
+ghost use Rattle.office_scenes.specs.Running.{HoldsTx};
+ghost use Rattle.office_scenes.specs.Scenes.{KeepsOn, IsAtWork};
 ghost use Rattle.office_moves.specs.Serving.{ServedInto};
 
-use client_tasks::{Office, TakeError};
 use idb_base::NoMemory;
 use idb_desk::{Desk, DeskStep};
+use office_scenes::{Office, TakeError, fitting_laws, showing_laws, telling_laws};
 use script_runs::Notes;
-use session_limits::{fitting_laws, showing_laws, telling_laws};
 use session_states::step_laws;
 use std::alloc::Global;
 

@@ -1,7 +1,6 @@
 -- What a loop over the members adds, the first member, and the record of a member.
 --     more_values, more_keys            the values, and the keys, of one member more;  no_value, no_key: of one that has none
 --     stored_member                     the value of a member of the store itself
---     first_primary_at, first_value_at      what the first of a span answers
 use Rattle.std.proofs.Common.{◌≡◌, ℕ, zero, suc, ◌+◌, ◌-◌, ◌≤◌, List, [], ◌∷◌, ◌++◌, refl, sym, ap, ◌∙◌, Option, Some, None, map, take, drop, arith}
 use Rattle.std.proofs.lemmas.List.{map-append, append-nil}
 use Rattle.std.proofs.lemmas.List.Elements.{filter_map-append}
@@ -14,9 +13,9 @@ use Rattle.clone_values.specs.Tree.{Tree}
 use Rattle.clone_values.specs.KeyTree.{KeyTree}
 use Rattle.idb_keys.specs.declared.names.Over.{Over}
 use Rattle.idb_keys.specs.declared.names.Over.TheVariants.{Store}
-use Rattle.index_tables.specs.RecordRows.{Records}
+use Rattle.indexed_records.specs.RecordRows.{Records}
 use Rattle.idb_schema.specs.declared.definitions.IndexInfo.{IndexInfo}
-use Rattle.index_tables.specs.Rows.{RowTree}
+use Rattle.indexed_records.specs.Rows.{RowTree}
 use Rattle.indexed_records.proofs.Laws.{record_found}
 use Rattle.indexed_records.specs.Reading.{members_in, first_primary, first_value}
 
@@ -90,12 +89,3 @@ stored_member indexes records over place is =
 through : {A B C : Type 0} (f : A → Option C) (g : B → A) (o : Option B) → option_and_then (λ m. f (g m)) o ≡ option_and_then f (option_map g o)
 through f g None = refl
 through f g (Some m) = refl
-
--- what stands at the place of the first is the first of those selected
-pub first_primary_at : (ms ys : List RowTree) (o : Option ℕ) → slice_get ys 0 ≡ option_and_then (slice_get ms) o → option_map (λ (m : RowTree). m.1) (option_and_then (slice_get ms) o) ≡ first_primary ys
-first_primary_at ms ys o e = ap (option_map (λ (m : RowTree). m.1)) (sym e) ∙ sym (slice_get-map (λ (m : RowTree). m.1) ys 0)
-
-pub first_value_at : (records : Records) (ms ys : List RowTree) (o : Option ℕ) → slice_get ys 0 ≡ option_and_then (slice_get ms) o
-    → option_and_then (λ (m : RowTree). finite.get records m.1) (option_and_then (slice_get ms) o) ≡ first_value records ys
-first_value_at records ms ys o e =
-    through (λ k. finite.get records k) (λ (m : RowTree). m.1) (option_and_then (slice_get ms) o) ∙ ap (option_and_then (λ k. finite.get records k)) (first_primary_at ms ys o e)

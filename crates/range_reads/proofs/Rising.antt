@@ -22,9 +22,9 @@ use Rattle.idb_keys.specs.declared.names.Over.{Over}
 use Rattle.idb_keys.specs.declared.names.Over.TheVariants.{Store, Index}
 use Rattle.idb_schema.specs.declared.definitions.IndexInfo.{IndexInfo}
 use Rattle.sorted_table.proofs.Laws.{is_less, first, second}
-use Rattle.index_tables.specs.Rows.{RowTree, row_cmp, among, rows_of}
-use Rattle.index_tables.specs.RecordRows.{Records, index_rows, gives_key}
-use Rattle.index_tables.proofs.Laws.{rising, has_row_among, has_index_row}
+use Rattle.indexed_records.specs.Rows.{RowTree, row_cmp, among, rows_of}
+use Rattle.indexed_records.specs.RecordRows.{Records, index_rows, gives_key}
+use Rattle.indexed_records.proofs.Laws.{rising, has_row_among, has_index_row}
 use Rattle.indexed_records.specs.Reading.{members_in, selected}
 use Rattle.indexed_records.specs.Ends.{IsFirstFrom}
 

@@ -1,8 +1,8 @@
 -- Where both bounds of a range split the members, the range selects what stands between the two places.
 --     span_selected, no_span            where the lower place is not behind the upper one; where it is
 --     all_selected                      a range that is left out
---     all_start, all_past, turned       the splits of a missing lower and upper bound, and an upper bound as a lower one turned round
---     short_enough, cut                 a limit that takes all, and one that does not
+--     turned                            an upper bound as a lower one turned round
+--     cut                   a limit that takes not all
 use Rattle.std.proofs.Common.{◌≡◌, ℕ, zero, suc, ◌+◌, ◌-◌, ◌<◌, ◌≤◌, ◌⊎◌, inl, inr, Bool, true, false, cond, not, ◌&&◌, List, [], ◌∷◌, refl, sym, ap, subst, ◌∙◌, Some, None, length, take, drop, length-drop, arith}
 use Rattle.std.proofs.lemmas.Bool.{ne_eqb}
 use Rattle.std.proofs.lemmas.List.{take_all, take-take}
@@ -95,11 +95,6 @@ pub all_selected : (n : ℕ) (ms : List (KeyTree × KeyTree)) → n ≡ length m
 all_selected n ms e = take_all (n - 0) ms (omega arith) ∙ sym (filtered_all ms)
 
 -- ---- the ends
-pub all_start : (ms : List (KeyTree × KeyTree)) → IsFirstFrom None ms 0
-all_start ms = record { within = omega arith; before = λ k d lt. absurd (omega arith); behind = λ k d lt. refl }
-
-pub all_past : (ms : List (KeyTree × KeyTree)) → IsPastLast None ms (length ms)
-all_past ms = record { within = omega arith; before = λ k d lt. refl; behind = λ k d lt. absurd (omega (arith, length-drop (length ms) ms)) }
 
 turn : (k m : KeyTree) (is_open : Bool) → meets_lower (Some (bound_at k (not is_open))) m ≡ not (meets_upper (Some (bound_at k is_open)) m)
 turn k m is_open =
@@ -113,14 +108,6 @@ turned k is_open ms place h = subst (λ (test : KeyTree × KeyTree → Bool). Sp
 -- ---- limits
 limited_some : {A : Type 0} (limit : ℕ) (xs : List A) → 0 < limit → take limit xs ≡ limited limit xs
 limited_some limit xs h = ap (λ none. cond none xs (take limit xs)) (sym (ne_eqb limit 0 (λ e. omega arith)))
-
-unlimited : {A : Type 0} (limit : ℕ) (xs : List A) → length xs ≤ limit → xs ≡ limited limit xs
-unlimited zero xs h = refl
-unlimited (suc n) xs h = sym (take_all (suc n) xs h) ∙ limited_some (suc n) xs (omega arith)
-
-pub short_enough : {A : Type 0} (limit : ℕ) (xs : List A) → (limit ≡ 0) ⊎ (length xs ≤ limit) → xs ≡ limited limit xs
-short_enough limit xs (inl e) = sym (ap (λ n. limited n xs) e)
-short_enough limit xs (inr h) = unlimited limit xs h
 
 pub cut : {A : Type 0} (s n limit : ℕ) (ms xs : List A) → take n (drop s ms) ≡ xs → 0 < limit → limit ≤ n → take (s + limit - s) (drop s ms) ≡ limited limit xs
 cut s n limit ms xs e some le =

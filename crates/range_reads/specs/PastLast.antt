@@ -2,7 +2,7 @@
 --     IsPastLast            the first member that no longer meets an upper bound
 use Rattle.std.specs.Prelude.{ℕ, not, List, Option}
 use Rattle.idb_keys.specs.KeyRange.{Bound, meets_upper}
-use Rattle.index_tables.specs.Rows.{RowTree}
+use Rattle.indexed_records.specs.Rows.{RowTree}
 use Rattle.indexed_records.specs.Ends.{Splits}
 
 abbrev pub IsPastLast : Option Bound → List RowTree → ℕ → Type 0

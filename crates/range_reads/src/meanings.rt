@@ -6,8 +6,8 @@ ghost use Rattle.std.specs.declared.cmp.Ordering.TheVariants.{Less};
 ghost use Rattle.idb_keys.specs.declared.names.Over.{Over};
 ghost use Rattle.idb_keys.specs.declared.names.Over.TheVariants.{Index};
 ghost use Rattle.idb_schema.specs.declared.definitions.IndexInfo.{IndexInfo};
-ghost use Rattle.index_tables.specs.Rows.{RowTree, row_cmp, among};
-ghost use Rattle.index_tables.specs.RecordRows.{Records, gives_key};
+ghost use Rattle.indexed_records.specs.Rows.{RowTree, row_cmp, among};
+ghost use Rattle.indexed_records.specs.RecordRows.{Records, gives_key};
 ghost use Rattle.indexed_records.specs.Reading.{members_in};
 
 /// The laws of what a source shows: it rises, by key and then by primary key, and an index shows a row exactly where the

@@ -9,8 +9,7 @@ use crate::spans::{limited_span, lower_end};
 use clone_values::{Items, Key, Keys, Value, copy_value};
 use idb_base::{GREATEST_LENGTH, NoMemory};
 use idb_keys::{KeyRange, Over};
-use index_tables::Tables;
-use indexed_records::IndexedRecords;
+use indexed_records::{IndexedRecords, Tables};
 use std::alloc::Global;
 
 /// A copy of the value of the first record whose key is in the range ("retrieve a value from an object store"); over an

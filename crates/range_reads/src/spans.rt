@@ -5,8 +5,7 @@ ghost use Rattle.range_reads.specs.PastLast.{IsPastLast};
 ghost use Rattle.indexed_records.specs.Reading.{members_in, limited, selected, asked};
 
 use idb_keys::{KeyRange, Over};
-use index_tables::Tables;
-use indexed_records::IndexedRecords;
+use indexed_records::{IndexedRecords, Tables};
 
 /// The place of the first record or row whose key is in the range, and the place behind the last, both found by halving;
 /// without a range, all of them. Where none is in it, the two places are one. It takes no memory.

@@ -59,12 +59,6 @@ pub below_more : (end more : ℕ) (ns : List ℕ) → end ≤ more → AreAllBel
 below_more end more [] l b = tt
 below_more end more (n ∷ ns) l b = (omega (arith, b.0), below_more end more ns l b.1)
 
-pub below_filtered : (p : ℕ → Bool) (end : ℕ) (ns : List ℕ) → AreAllBelow end ns → AreAllBelow end (filter p ns)
-below_filtered p end [] b = tt
-below_filtered p end (n ∷ ns) b =
-    let rest : AreAllBelow end (filter p ns) = below_filtered p end ns b.1 in
-    elim (p n) as (λ b. AreAllBelow end (cond b (n ∷ filter p ns) (filter p ns))) [ true ↦ (b.0, rest) | false ↦ rest ]
-
 pub left_alone : (n : ℕ) (ns : List ℕ) → AreAllBelow n ns → without_number n ns ≡ ns
 left_alone n [] b = refl
 left_alone n (m ∷ ms) b =

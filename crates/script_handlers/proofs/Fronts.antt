@@ -35,10 +35,3 @@ pub place_refused : (l : LentFront) (same : Front ScriptHandler) (r : Refusal) (
 place_refused l same r name call env success error opens e h is =
     let some : refusal_of call (front_map script_seen l.front) ≡ Some name = refusal_plain script_seen call l.front ∙ named r (refusal_of call l.front) name e h in
     rw some (ap (λ f. (lent_seen (record l { front = f }), Some name)) is)
-
-pub change_refused : (l : LentFront) (same : Front ScriptHandler) (r : Refusal) (name : ErrorName) (call : SchemaCall) (env : Env)
-    → r ≡ why.Name name → IsRefusal r (refusal_of_change call l.front) → same ≡ l.front
-    → (lent_seen (record l { front = same }), Some name) ≡ did_of (lent_seen l) env (ask.Changes call)
-change_refused l same r name call env e h is =
-    let some : refusal_of_change call (front_map script_seen l.front) ≡ Some name = named r (refusal_of_change call l.front) name e h in
-    rw some (ap (λ f. (lent_seen (record l { front = f }), Some name)) is)

@@ -35,12 +35,6 @@ ran blocks shared lent number block env front taken last how before after e k m 
       added = g.lines ∙ ap (λ ns. before ++ ns) (alone_notes g.outs);
     }
 
-pub body_ran : (blocks : List Named) (number body : ℕ) (env own : Env) (front after : Front Script) (prevented : Bool) (how : RunEnd) (before notes : List Note)
-    → own ≡ body_env env → RunsInto blocks number body own front before after prevented how notes → BodyRunsInto blocks number body env front before after how notes
-body_ran blocks number body env own front after prevented how before notes e g = record {
-  lines = g.lines;
-  runs = (prevented, subst (λ v. FrontRuns blocks number body v front g.lines after prevented how) e g.runs);
-  added = g.added;
 }
 
 -- ---- events

@@ -21,7 +21,7 @@ use Rattle.report_lines.specs.declared.reports.ReportEnd.{ReportEnd}
 use Rattle.report_lines.specs.declared.reports.ReportEnd.TheVariants as end
 use Rattle.script_statements.specs.declared.script.ScriptSession.{ScriptSession}
 use Rattle.legal_sessions.specs.Legal.{report_end, IsLegalReport}
-use Rattle.interrupted_sessions.specs.Interrupted.{HasCommits}
+use Rattle.session_driver.specs.Interrupted.{HasCommits}
 use Rattle.script_runner.specs.Sessions.{SessionRun, SessionDone, IsLeftBy, GivenAfter, starts_of, starts_after_run, LeavesAfter, BeginsAfter, AreReported, last_run, texts_of, one_if_fault, fault_ends, IsCounted, EndsBetween, EndsAtOpening, EndsByFault, EndsWithin, IsCutOff}
 use Rattle.script_runner.specs.Running.{IsOpenedOn, IsUnopened, RanOn, StopsIn, StopsBy, EndsBy, RanSoFar}
 use Rattle.script_runner.specs.Stops.{stop_of_recovery}

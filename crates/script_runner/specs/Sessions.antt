@@ -40,7 +40,7 @@ use Rattle.report_lines.specs.declared.reports.ReportEnd.{ReportEnd}
 use Rattle.report_lines.specs.declared.reports.ReportEnd.TheVariants as end
 use Rattle.script_statements.specs.declared.script.ScriptSession.{ScriptSession}
 use Rattle.legal_sessions.specs.Legal.{report_end, IsLegalReport}
-use Rattle.interrupted_sessions.specs.Interrupted.{WasInterrupted}
+use Rattle.session_driver.specs.Interrupted.{WasInterrupted}
 use Rattle.session_books.specs.States.{HadCause}
 
 -- ---- one session

@@ -16,10 +16,9 @@ use disk_trait::{Disk, Failed};
 use edge_traits::{Gate, Sink};
 use idb_base::NoMemory;
 use idb_recovery::recover;
-use interrupted_sessions::interruption_laws;
 use report_lines::Report;
 use script_statements::{ScriptSession, ScriptSessions};
-use session_driver::run_session;
+use session_driver::{interruption_laws, run_session};
 use std::alloc::Global;
 use store_tables::LeafTables;
 

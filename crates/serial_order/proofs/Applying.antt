@@ -13,12 +13,11 @@ use Rattle.item_changes.specs.Effects.{applied_all, all_apply, finds_all, made_a
 use Rattle.item_changes.specs.Scopes.{Scope, Whole, part_of}
 use Rattle.item_changes.proofs.Laws.{applies_all, inside_all}
 use Rattle.request_lists.specs.Placing.{after_rest, after_throw}
-use Rattle.list_machine.specs.declared.steps.Step.TheVariants as step
-use Rattle.list_machine.specs.States.{State, fresh_state}
-use Rattle.list_machine.specs.Machine.{Reacts, Writes, Runs}
-use Rattle.list_machine.proofs.Laws.{Below, goes_keeps}
+use Rattle.machine_laws.specs.Step.TheVariants as step
+use Rattle.machine_laws.specs.States.{State, fresh_state}
+use Rattle.machine_laws.specs.Machine.{Reacts, Writes, Runs}
+use Rattle.machine_laws.proofs.Laws.{Below, goes_keeps, KeyLaws, state_fresh, run_state}
 use Rattle.machine_laws.specs.Keeping.{IsState}
-use Rattle.machine_laws.proofs.Laws.{KeyLaws, state_fresh, run_state}
 use Rattle.serial_order.specs.FinishEntries.{ScriptedBody, TxBody, Scripted, Deletion, FinishEntry, front_left, scope_of_body, scope_of_entry, did_commit, changes_kept}
 use Rattle.serial_order.specs.SerialRuns.{joined_lines, ScriptedRun, RunsOn, RunsAlone, IsSerial}
 use Rattle.serial_order.specs.NumberOrder.{FitsItems, FitsWhole, EachFits, EachApplies}

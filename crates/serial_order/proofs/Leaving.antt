@@ -21,11 +21,10 @@ use Rattle.item_changes.specs.Scopes.{Scope, Reads, Writes as Writing, Whole, ac
 use Rattle.item_changes.proofs.Laws.{names_total, one_name}
 use Rattle.request_lists.specs.Fronts.{new_front, is_upgrade_mode}
 use Rattle.request_lists.specs.Placing.{Becomes, after_rest, after_throw}
-use Rattle.list_machine.specs.States.{State, fresh_state}
-use Rattle.list_machine.specs.Machine.{Reacts, Writes, GoesOn, Begins, Goes}
-use Rattle.list_machine.proofs.Laws.{both_true}
+use Rattle.machine_laws.specs.States.{State, fresh_state}
+use Rattle.machine_laws.specs.Machine.{Reacts, Writes, GoesOn, Begins, Goes}
+use Rattle.machine_laws.proofs.Laws.{both_true, scope_fresh, goes_scope, scope_made, goes_in_scope}
 use Rattle.machine_laws.specs.Limiting.{scope_in, StaysInScope}
-use Rattle.machine_laws.proofs.Laws.{scope_fresh, goes_scope, scope_made, goes_in_scope}
 use Rattle.serial_order.specs.FinishEntries.{ScriptedBody, TxBody, Scripted, Deletion, FinishEntry, front_left, scope_of_body, scope_of_entry, did_commit, changes_kept}
 use Rattle.serial_order.specs.SerialRuns.{joined_lines, GoesBy, Fresh, Further, RunsOut, RunsTo, DeletionRun, RunsOn, NeverStarts, RunsAlone}
 

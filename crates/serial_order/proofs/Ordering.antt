@@ -11,7 +11,7 @@ use Rattle.item_changes.specs.Items.{Items}
 use Rattle.item_changes.specs.Effects.{applied_all}
 use Rattle.item_changes.specs.Scopes.{Scope, scopes_conflict, part_of}
 use Rattle.item_changes.proofs.Laws.{outside_all, swap_all}
-use Rattle.list_machine.specs.Machine.{Reacts, Writes}
+use Rattle.machine_laws.specs.Machine.{Reacts, Writes}
 use Rattle.serial_order.specs.FinishEntries.{FinishEntry, scope_of_entry, did_commit, changes_kept}
 use Rattle.serial_order.specs.SerialRuns.{RunsOn, NeverStarts, RunsAlone, IsSerial, items_after}
 use Rattle.serial_order.specs.NumberOrder.{both_run, IsInOrder, placed_by_number, by_number, committed_of}

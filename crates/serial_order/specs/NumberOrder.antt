@@ -13,8 +13,8 @@ use Rattle.item_changes.specs.Items.{Database, Items}
 use Rattle.item_changes.specs.Effects.{made_all, applied_all, all_apply}
 use Rattle.item_changes.specs.Scopes.{scopes_conflict, part_of}
 use Rattle.request_lists.specs.Fronts.{is_upgrade_mode}
-use Rattle.list_machine.specs.States.{opening_changes}
-use Rattle.list_machine.specs.Noting.{IsRaised}
+use Rattle.machine_laws.specs.States.{opening_changes}
+use Rattle.machine_laws.specs.Noting.{IsRaised}
 use Rattle.machine_laws.specs.Keeping.{Shows}
 use Rattle.serial_order.specs.FinishEntries.{ScriptedBody, TxBody, Scripted, Deletion, FinishEntry, scope_of_entry, did_commit, changes_kept}
 

@@ -28,9 +28,9 @@ use Rattle.request_lists.specs.declared.entries.Phase.{Phase}
 use Rattle.request_lists.specs.declared.entries.Phase.TheVariants as phase
 use Rattle.request_lists.specs.Fronts.{Front, new_front}
 use Rattle.request_lists.specs.Placing.{Becomes, aborted_by}
-use Rattle.list_machine.specs.declared.steps.Step.TheVariants as step
-use Rattle.list_machine.specs.States.{State, fresh_state}
-use Rattle.list_machine.specs.Machine.{Reacts, Writes, Turn, Aborts, Cancels}
+use Rattle.machine_laws.specs.Step.TheVariants as step
+use Rattle.machine_laws.specs.States.{State, fresh_state}
+use Rattle.machine_laws.specs.Machine.{Reacts, Writes, Turn, Aborts, Cancels}
 use Rattle.serial_order.specs.FinishEntries.{ScriptedBody, TxBody, Scripted, Deletion, FinishEntry, front_left, scope_of_entry, changes_kept}
 
 -- ---- turn by turn

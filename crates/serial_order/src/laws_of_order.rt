@@ -7,9 +7,9 @@ ghost use Rattle.idb_calls.specs.declared.traces.Outcome.TheVariants.{Committed}
 ghost use Rattle.item_changes.specs.Items.{Items};
 ghost use Rattle.item_changes.specs.Effects.{applied_all};
 ghost use Rattle.item_changes.specs.Scopes.{AllWithin, part_of};
-ghost use Rattle.list_machine.specs.declared.steps.Step.TheVariants as step;
-ghost use Rattle.list_machine.specs.States.{State, fresh_state};
-ghost use Rattle.list_machine.specs.Machine.{Runs};
+ghost use Rattle.machine_laws.specs.Step.TheVariants as step;
+ghost use Rattle.machine_laws.specs.States.{State, fresh_state};
+ghost use Rattle.machine_laws.specs.Machine.{Runs};
 ghost use Rattle.serial_order.specs.FinishEntries.{ScriptedBody, Scripted, FinishEntry, front_left, scope_of_body, scope_of_entry, did_commit, changes_kept};
 ghost use Rattle.serial_order.specs.SerialRuns.{joined_lines, ScriptedRun, RunsAlone, IsSerial, items_after};
 ghost use Rattle.serial_order.specs.NumberOrder.{IsInOrder, by_number, Rises, committed_of, FitsWhole, EachFits, EachApplies};

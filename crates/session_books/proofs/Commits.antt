@@ -19,23 +19,11 @@ use Rattle.session_books.specs.Entering.{is_commit, commits_with, end_within}
 pub commit_is : (t : TxTrace) → IsCommit t → is_commit t ≡ true
 commit_is t c = rw (c.committed, c.may_write) refl
 
-both_hold : (a b : Bool) → (a && not b) ≡ true → (a ≡ true) × (b ≡ false)
-both_hold true false e = (refl, refl)
-both_hold true true e = absurd cc
-both_hold false b e = absurd cc
-
-pub is_the_commit : (t : TxTrace) → is_commit t ≡ true → IsCommit t
-is_the_commit t e = let p = both_hold (has_committed t.outcome) (only_reads t.mode) e in record { committed = p.0; may_write = p.1 }
-
 none_of : (a b : Bool) → (a ≡ false) ⊎ (b ≡ true) → (a && not b) ≡ false
 none_of false b e = refl
 none_of true true e = refl
 none_of true false (inl e) = absurd cc
 none_of true false (inr e) = absurd cc
-
-pub noted_is_none : (t : TxTrace) (failed : Option ℕ) → IsNoted t failed → is_commit t ≡ false
-noted_is_none t failed (inl aborted) = none_of (has_committed t.outcome) (only_reads t.mode) (inl aborted)
-noted_is_none t failed (inr read) = none_of (has_committed t.outcome) (only_reads t.mode) (inr read.0)
 
 pub with_commit : (commits : List Commit) (t : TxTrace) → is_commit t ≡ true → commits_with commits t ≡ commits ++ commit_of t ∷ []
 with_commit commits t is = rw is refl
@@ -64,19 +52,4 @@ keeps_so shows opening commits noted end seen finished log committed noted_is se
 }
 
 -- a log that was just opened on these items
-pub opens_so : {D : Type 0} (shows : D → DiskView) (opening : Items) (disk : D) (live : LiveArea) (log : BookLog D) (finished committed : List ℕ)
-    → log ≡ fresh disk live → committed ≡ [] → ForSome (book_batches shows (fresh disk live)) (λ batches. replayed batches ≡ Ok opening)
-    → IsSessionBook shows (record { opening = opening; commits = []; end = Dropped; finished = finished; log = log }) committed
-opens_so shows opening disk live log finished committed new none gives = record {
-  follows = subst (FollowsCommits shows opening [] Dropped) (sym new)
-      (record {
-        gives = λ items none_yet told is. let same : opening ≡ items = cc in gives told is ∙ ap Ok same;
-        waiting = refl;
-        lost = refl;
-        fits = λ batch lost. absurd cc;
-        faultless = refl;
-      });
-  applies = refl;
-  numbers = none;
-  cause = tt;
 }

@@ -1,5 +1,4 @@
 -- What the crates above cite.
---     holds_of_given        a recovery's log gives its databases
 --     front_applies         where commits apply, those in front do
 use Rattle.std.proofs.Common.{◌≡◌, Bool, true, List, [], ◌∷◌, ◌++◌, Option, Some, None, is_some, Ok, refl}
 use Rattle.disk_trait.specs.Disk.{DiskView}
@@ -12,9 +11,6 @@ use Rattle.log_history.specs.Replayed.{replayed, after_record, after_records}
 use Rattle.log_history.specs.Batching.{Commit, records_of_commits}
 use Rattle.idb_recovery.specs.Recovered.{GivesItems}
 use Rattle.session_books.specs.States.{commits_apply, HoldsItems}
-
-pub holds_of_given : {D : Type 0} {d : _} (shows : D → DiskView) (old : DiskView) (log : GateLog D d) (items : Items) → GivesItems shows old log items → HoldsItems shows log items
-holds_of_given shows old log items g = have_of (content_of shows log) (λ batches. replayed batches ≡ Ok items) g.batches g.has g.gives
 
 goes_less_far : (o : Option Items) (f g : Items → Option Items) → ((items : Items) → is_some (f items) ≡ true → is_some (g items) ≡ true) → is_some (o >>= f) ≡ true → is_some (o >>= g) ≡ true
 goes_less_far None f g less e = e

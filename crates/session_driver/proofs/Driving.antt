@@ -15,10 +15,10 @@ use Rattle.idb_schema.specs.Schemas.{SchemaData}
 use Rattle.name_queues.specs.Mails.{events_of}
 use Rattle.scope_desk.specs.Starts.{may_start}
 use Rattle.scope_desk.specs.declared.unfinished.MayStart.TheVariants.{Go}
-use Rattle.idb_desk.specs.declared.stands.DrawnTx.{DrawnTx}
+use Rattle.desk_steps.specs.declared.stands.DrawnTx.{DrawnTx}
 use Rattle.idb_desk.specs.Desks.{DeskState, drawn_at}
 use Rattle.idb_desk.specs.Refusals.{has_some, is_allowed}
-use Rattle.idb_desk.specs.declared.steps.DeskStep.TheVariants as step
+use Rattle.desk_steps.specs.declared.steps.DeskStep.TheVariants as step
 use Rattle.idb_desk.specs.Steps.{DeskRun, desk_run, IsDeskRun}
 use Rattle.item_changes.specs.Items.{Items}
 use Rattle.log_history.specs.Kept.{End}

@@ -1,6 +1,5 @@
 -- A session that came to its report, and one that stopped.
---     doubt_ends, doubt_reports, still_runs how its log ends, and is said to
---     goes_on_still, goes_on        the book behind no step, and behind several
+--     goes_on               the book behind several steps
 --     fault_ends            a report that ends by a fault is of a log that met one
 --     reports_on            what it reports is legal, and each image of the disk is found as so many of its commits as may be kept
 --     risen                 a log that ended by a fault has counted it
@@ -30,34 +29,11 @@ use Rattle.session_driver.specs.Reporting.{report_told}
 use Rattle.session_driver.proofs.Driving.{LegalLaw, session_legal}
 
 -- ---- its log
-pub doubt_ends : (drop_end : Bool) (log_end : End) → is_open_end log_end ≡ true → takes_more log_end ≡ false → EndsSo drop_end (with_doubt [] log_end) log_end
-doubt_ends drop_end Dropped opened out = cc
-doubt_ends drop_end Flushed opened out = cc
-doubt_ends drop_end (FailedCommit c) opened out = refl
-doubt_ends drop_end FailedFlush opened out = cc
-doubt_ends drop_end FailedCheckpoint opened out = cc
-
-pub doubt_reports : (log_end : End) → is_open_end log_end ≡ true → takes_more log_end ≡ false → end.Fault ≡ report_end log_end
-doubt_reports Dropped opened out = cc
-doubt_reports Flushed opened out = cc
-doubt_reports (FailedCommit c) opened out = refl
-doubt_reports FailedFlush opened out = cc
-doubt_reports FailedCheckpoint opened out = cc
-
-pub still_runs : (log_end : End) → is_open_end log_end ≡ true → takes_more log_end ≡ true → log_end ≡ Dropped
-still_runs Dropped opened more = refl
-still_runs Flushed opened more = cc
-still_runs (FailedCommit c) opened more = cc
-still_runs FailedFlush opened more = cc
-still_runs FailedCheckpoint opened more = cc
 
 -- ---- the book
 not_both : {Y : Type 0} (b : Bool) → b ≡ false → b ≡ true → Y
 not_both true p q = cc
 not_both false p q = cc
-
-pub goes_on_still : {D : Type 0} (shows : D → DiskView) (book : SessionBookState D) → BookGoesOn shows book book
-goes_on_still shows book = record { opening = refl; rose = λ before now. not_both (met_fault book.end) before now; count = omega arith; started = refl; told = refl }
 
 rose_later : (a b c : ℕ) → Rose a b → b ≤ c → Rose a c
 rose_later a b c (inl less) le = inl (omega (arith, less, le))

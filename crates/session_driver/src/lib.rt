@@ -12,3 +12,4 @@ mod reporting;
 mod seats;
 
 pub use driver::run_session;
+pub use interrupted_sessions::interruption_laws;

@@ -14,10 +14,10 @@ use Rattle.idb_calls.specs.declared.traces.Outcome.TheVariants.{Committed, Abort
 use Rattle.idb_desk.specs.Desks.{DeskState, name_asked_by, drawn_at}
 use Rattle.idb_desk.specs.Refusals.{is_allowed, is_committed, is_created_stage, is_finished_stage, is_schema_for, fits_where, fits_kept, may_leave_where}
 use Rattle.idb_desk.specs.Steps.{desk_run}
-use Rattle.idb_desk.specs.declared.stands.DrawnTx.{DrawnTx}
-use Rattle.idb_desk.specs.declared.stands.TxKind.{TxKind}
-use Rattle.idb_desk.specs.declared.stands.TxKind.TheVariants as kind
-use Rattle.idb_desk.specs.declared.steps.DeskStep.TheVariants as step
+use Rattle.desk_steps.specs.declared.stands.DrawnTx.{DrawnTx}
+use Rattle.desk_steps.specs.declared.stands.TxKind.{TxKind}
+use Rattle.desk_steps.specs.declared.stands.TxKind.TheVariants as kind
+use Rattle.desk_steps.specs.declared.steps.DeskStep.TheVariants as step
 use Rattle.item_changes.specs.Items.{Name, Database, Items}
 use Rattle.request_lists.specs.Fronts.{is_upgrade_mode}
 use Rattle.list_machine.specs.States.{State, fresh_state}
@@ -34,7 +34,7 @@ use Rattle.session_states.specs.UnderWay.{IsInStep}
 use Rattle.session_facts.specs.Fitting.{FitsUpgrade, FitsKind, FitsDrawn, FitsDesk, IsFitting}
 use Rattle.session_facts.proofs.Becoming.{left_same}
 use Rattle.session_facts.proofs.Desk.{some_same, equal_self, name_itself}
-use Rattle.session_facts.proofs.Names.{length_infos}
+use Rattle.desk_facts.proofs.Laws.{length_infos}
 use Rattle.session_facts.proofs.Seats.{all_got, tx_found, runs_as, first_started}
 use Rattle.session_facts.proofs.Upgrading.{goes_has, goes_limits}
 

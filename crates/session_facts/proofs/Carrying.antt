@@ -20,10 +20,10 @@ use Rattle.name_queues.specs.declared.events.ClientEvent.{ClientEvent}
 use Rattle.name_queues.specs.declared.ids.ConnId.{ConnId}
 use Rattle.idb_desk.specs.Desks.{asks_of, request_in}
 use Rattle.idb_desk.specs.Steps.{after, DeskRun, desk_run, with_step, IsDeskRun, answer_of, event_for}
-use Rattle.idb_desk.specs.declared.stands.DeskRequest.{DeskRequest}
-use Rattle.idb_desk.specs.declared.stands.TxKind.TheVariants as kind
-use Rattle.idb_desk.specs.declared.steps.DeskStep.{DeskStep}
-use Rattle.idb_desk.specs.declared.steps.DeskStep.TheVariants as step
+use Rattle.desk_steps.specs.declared.stands.DeskRequest.{DeskRequest}
+use Rattle.desk_steps.specs.declared.stands.TxKind.TheVariants as kind
+use Rattle.desk_steps.specs.declared.steps.DeskStep.{DeskStep}
+use Rattle.desk_steps.specs.declared.steps.DeskStep.TheVariants as step
 use Rattle.desk_facts.specs.Databases.{AreOpenable, is_finish_of}
 use Rattle.desk_facts.specs.Orderly.{asked_at}
 use Rattle.connection_queues.specs.Machine.{schema_of}
@@ -57,10 +57,6 @@ use Rattle.session_facts.proofs.Drawing.{fits_kept, created_fits, told_schema, t
 all_end : {X : Type 0} (P : X → Type 0) (xs : List X) (x : X) → AllByRecursion P xs → P x → AllByRecursion P (xs ++ x ∷ [])
 all_end P [] x all p = (p, tt)
 all_end P (y ∷ ys) x all p = (all.0, all_end P ys x all.1 p)
-
-all_onto : {X : Type 0} (P Q : X → Type 0) (xs : List X) → ((x : X) → P x → Q x) → AllByRecursion P xs → AllByRecursion Q xs
-all_onto P Q [] f all = tt
-all_onto P Q (x ∷ xs) f all = (f x all.0, all_onto P Q xs f all.1)
 
 map_got : {X Y : Type 0} (f : X → Y) (xs : List X) (i : ℕ) → option_map f (slice_get xs i) ≡ slice_get (map f xs) i
 map_got f [] i = refl

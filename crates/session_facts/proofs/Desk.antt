@@ -1,5 +1,5 @@
 -- What an orderly desk tells of connections, events and transactions.
---     IsSureDesk            it is orderly, and each name steady;  sure_run: in each run, sure_step: after a step
+--     IsSureDesk            it is orderly, and each name steady;  sure_run: in each run
 --     database_named        the database of the first name that passes a test
 --     seen_is               the schema that a connection sees is that of its database, or that of a new one
 --     raised_upgrade, there_deletion        an upgrade's version is above that of its database;  what is deleted exists
@@ -28,13 +28,13 @@ use Rattle.idb_desk.specs.Databases.{database_in, database_under}
 use Rattle.idb_desk.specs.Desks.{DeskState, DeskBoard, name_asked_by, drawn_at, stages_where}
 use Rattle.idb_desk.specs.Refusals.{is_allowed, is_committed, is_finished_stage}
 use Rattle.idb_desk.specs.Steps.{after, after_take, after_event, after_created, after_left, drawn_whole, DeskRun, desk_run, IsDeskRun, event_for}
-use Rattle.idb_desk.specs.declared.stands.DrawnTx.{DrawnTx}
-use Rattle.idb_desk.specs.declared.stands.TxKind.{TxKind}
-use Rattle.idb_desk.specs.declared.stands.TxKind.TheVariants as kind
-use Rattle.idb_desk.specs.declared.stands.TxStage.{TxStage}
-use Rattle.idb_desk.specs.declared.stands.TxStage.TheVariants as stage
-use Rattle.idb_desk.specs.declared.steps.DeskStep.{DeskStep}
-use Rattle.idb_desk.specs.declared.steps.DeskStep.TheVariants as step
+use Rattle.desk_steps.specs.declared.stands.DrawnTx.{DrawnTx}
+use Rattle.desk_steps.specs.declared.stands.TxKind.{TxKind}
+use Rattle.desk_steps.specs.declared.stands.TxKind.TheVariants as kind
+use Rattle.desk_steps.specs.declared.stands.TxStage.{TxStage}
+use Rattle.desk_steps.specs.declared.stands.TxStage.TheVariants as stage
+use Rattle.desk_steps.specs.declared.steps.DeskStep.{DeskStep}
+use Rattle.desk_steps.specs.declared.steps.DeskStep.TheVariants as step
 use Rattle.desk_facts.specs.Counts.{one_if, tally, Whole, Upgrades, Deletes, kind_for, runs_by, runs_where, of_request, stands_of}
 use Rattle.desk_facts.specs.Databases.{AreOpenable, IsUnfinishedOf, is_finish_of}
 use Rattle.desk_facts.specs.Drawn.{unfinished_count, whole_of_kind, one_whole}
@@ -42,10 +42,9 @@ use Rattle.desk_facts.specs.Orderly.{asked_at, IsOrderly}
 use Rattle.desk_facts.specs.Owning.{IsConnOf, AreEventsOf}
 use Rattle.desk_facts.specs.Queued.{AreNamedApart, IsOwned}
 use Rattle.desk_facts.specs.Shapes.{HasVersion, IsShaped}
-use Rattle.desk_facts.proofs.Laws.{orderly_run, orderly_step, own, asks_stay, stays_through}
+use Rattle.desk_facts.proofs.Laws.{orderly_run, orderly_step, own, asks_stay, stays_through, AreSteady, steady_step, steady_run}
 use Rattle.session_facts.specs.Fitting.{schema_or_new, AreFew}
-use Rattle.session_facts.proofs.Steady.{HasFew, IsWantedFrom, RunsFrom, IsSteady}
-use Rattle.session_facts.proofs.Names.{AreSteady, steady_step, steady_run}
+use Rattle.connection_queues.proofs.Laws.{HasFew, IsWantedFrom, RunsFrom, IsSteady}
 
 pub some_same : {X : Type 0} {x y : X} → Some x ≡ Some y → x ≡ y
 some_same e = cc
@@ -82,9 +81,6 @@ pub record IsSureDesk (d : DeskState) : Type 0 where
 
 pub sure_run : (r : DeskRun) → AreOpenable r.opening → AreFew r.opening → IsDeskRun r → IsSureDesk (desk_run r)
 sure_run r openable few run = record { orderly = orderly_run r openable run; steady = steady_run r few run }
-
-pub sure_step : (d : DeskState) (t : DeskStep) → is_allowed d t ≡ true → IsSureDesk d → IsSureDesk (after d t)
-sure_step d t e s = record { orderly = orderly_step d t s.orderly e; steady = steady_step d t e s.steady }
 
 -- ---- databases
 -- the first that passes is not one of those before

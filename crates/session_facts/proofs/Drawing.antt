@@ -22,13 +22,13 @@ use Rattle.idb_desk.specs.Databases.{database_under}
 use Rattle.idb_desk.specs.Desks.{DeskState, name_asked_by, request_at, stand_where, stand_of, drawn_at}
 use Rattle.idb_desk.specs.Refusals.{is_allowed, refusal_of_create, is_usable, is_given, has_stores, is_empty_scope, is_version_change, is_at_limit, has_some}
 use Rattle.idb_desk.specs.Steps.{after, after_take, after_created, drawn_whole, event_for, answer_of, number_of_event}
-use Rattle.idb_desk.specs.declared.stands.DeskRequest.{DeskRequest}
-use Rattle.idb_desk.specs.declared.stands.DrawnTx.{DrawnTx}
-use Rattle.idb_desk.specs.declared.stands.TxKind.{TxKind}
-use Rattle.idb_desk.specs.declared.stands.TxKind.TheVariants as kind
-use Rattle.idb_desk.specs.declared.stands.TxStage.TheVariants as stage
-use Rattle.idb_desk.specs.declared.steps.DeskStep.{DeskStep}
-use Rattle.idb_desk.specs.declared.steps.DeskStep.TheVariants as step
+use Rattle.desk_steps.specs.declared.stands.DeskRequest.{DeskRequest}
+use Rattle.desk_steps.specs.declared.stands.DrawnTx.{DrawnTx}
+use Rattle.desk_steps.specs.declared.stands.TxKind.{TxKind}
+use Rattle.desk_steps.specs.declared.stands.TxKind.TheVariants as kind
+use Rattle.desk_steps.specs.declared.stands.TxStage.TheVariants as stage
+use Rattle.desk_steps.specs.declared.steps.DeskStep.{DeskStep}
+use Rattle.desk_steps.specs.declared.steps.DeskStep.TheVariants as step
 use Rattle.desk_facts.specs.Databases.{IsUnfinishedOf, is_finish_of}
 use Rattle.desk_facts.specs.Orderly.{asked_at}
 use Rattle.desk_facts.proofs.Laws.{orderly_step, step_keeps, shows, sees_upgrade, asks_stay}

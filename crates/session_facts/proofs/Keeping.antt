@@ -11,8 +11,8 @@ use Rattle.idb_calls.specs.declared.traces.Outcome.{Outcome}
 use Rattle.name_queues.specs.declared.events.ClientEvent.{ClientEvent}
 use Rattle.idb_desk.specs.Desks.{DeskState, drawn_at}
 use Rattle.idb_desk.specs.Steps.{DeskRun, desk_run, with_step, IsDeskRun}
-use Rattle.idb_desk.specs.declared.stands.DrawnTx.{DrawnTx}
-use Rattle.idb_desk.specs.declared.steps.DeskStep.TheVariants as step
+use Rattle.desk_steps.specs.declared.stands.DrawnTx.{DrawnTx}
+use Rattle.desk_steps.specs.declared.steps.DeskStep.TheVariants as step
 use Rattle.desk_facts.specs.Databases.{AreOpenable}
 use Rattle.item_changes.specs.Items.{Items}
 use Rattle.serial_order.specs.FinishEntries.{FinishEntry}

@@ -1,5 +1,3 @@
-mod Steady
-mod Names
 mod Desk
 mod Drawing
 mod Carrying

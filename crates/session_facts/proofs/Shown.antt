@@ -19,11 +19,11 @@ use Rattle.idb_desk.specs.Databases.{database_under}
 use Rattle.idb_desk.specs.Desks.{DeskState}
 use Rattle.idb_desk.specs.Refusals.{is_allowed, is_committed}
 use Rattle.idb_desk.specs.Steps.{after, new_desk, DeskRun, desk_run, with_step, IsDeskRun}
-use Rattle.idb_desk.specs.declared.stands.DrawnTx.{DrawnTx}
-use Rattle.idb_desk.specs.declared.stands.TxKind.{TxKind}
-use Rattle.idb_desk.specs.declared.stands.TxKind.TheVariants as kind
-use Rattle.idb_desk.specs.declared.steps.DeskStep.{DeskStep}
-use Rattle.idb_desk.specs.declared.steps.DeskStep.TheVariants as step
+use Rattle.desk_steps.specs.declared.stands.DrawnTx.{DrawnTx}
+use Rattle.desk_steps.specs.declared.stands.TxKind.{TxKind}
+use Rattle.desk_steps.specs.declared.stands.TxKind.TheVariants as kind
+use Rattle.desk_steps.specs.declared.steps.DeskStep.{DeskStep}
+use Rattle.desk_steps.specs.declared.steps.DeskStep.TheVariants as step
 use Rattle.desk_facts.specs.Databases.{AreOpenable, IsUnfinishedOf, is_schema_named, is_whole_kind, names_the_same, changes_where, changes_database}
 use Rattle.desk_facts.proofs.Laws.{opening_databases, step_keeps, upgrade_puts, deletion_removes}
 use Rattle.item_changes.specs.Items.{Name, Database, Items, is_same_name, stores_in}

@@ -12,9 +12,9 @@ use Rattle.name_queues.specs.Names.{schema_version}
 use Rattle.idb_desk.specs.Databases.{database_under}
 use Rattle.idb_desk.specs.Desks.{DeskState}
 use Rattle.idb_desk.specs.Steps.{desk_run}
-use Rattle.idb_desk.specs.declared.stands.DrawnTx.{DrawnTx}
-use Rattle.idb_desk.specs.declared.stands.TxKind.{TxKind}
-use Rattle.idb_desk.specs.declared.stands.TxKind.TheVariants as kind
+use Rattle.desk_steps.specs.declared.stands.DrawnTx.{DrawnTx}
+use Rattle.desk_steps.specs.declared.stands.TxKind.{TxKind}
+use Rattle.desk_steps.specs.declared.stands.TxKind.TheVariants as kind
 use Rattle.desk_facts.specs.Databases.{IsUnfinishedOf}
 use Rattle.object_stores.specs.Store.{Store}
 use Rattle.item_changes.specs.Items.{Name, Database, Items, name_cmp}

@@ -8,7 +8,7 @@ use Rattle.name_queues.specs.declared.events.ClientEvent.{ClientEvent}
 use Rattle.name_queues.specs.declared.events.ClientEvent.TheVariants as event
 use Rattle.name_queues.specs.declared.ids.ConnId.{ConnId}
 use Rattle.idb_desk.specs.Steps.{DeskRun, desk_run, event_for}
-use Rattle.idb_desk.specs.declared.steps.DeskStep.TheVariants as step
+use Rattle.desk_steps.specs.declared.steps.DeskStep.TheVariants as step
 use Rattle.item_changes.specs.Items.{Items}
 use Rattle.script_statements.specs.declared.script.ScriptSession.{ScriptSession}
 use Rattle.client_machine.specs.Answering.{told_by, at_new_version}

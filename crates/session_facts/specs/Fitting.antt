@@ -11,9 +11,9 @@ use Rattle.std.specs.Prelude.{◌≡◌, ◌≤◌, ℕ, false, List, [], length
 use Rattle.std.specs.List.{AllByRecursion}
 use Rattle.idb_keys.specs.declared.names.Mode.TheVariants as mode
 use Rattle.idb_schema.specs.Schemas.{SchemaData, new_schema}
-use Rattle.idb_desk.specs.declared.stands.DrawnTx.{DrawnTx}
-use Rattle.idb_desk.specs.declared.stands.TxKind.{TxKind}
-use Rattle.idb_desk.specs.declared.stands.TxKind.TheVariants as kind
+use Rattle.desk_steps.specs.declared.stands.DrawnTx.{DrawnTx}
+use Rattle.desk_steps.specs.declared.stands.TxKind.{TxKind}
+use Rattle.desk_steps.specs.declared.stands.TxKind.TheVariants as kind
 use Rattle.idb_desk.specs.Databases.{database_under}
 use Rattle.idb_desk.specs.Desks.{DeskState}
 use Rattle.idb_desk.specs.Steps.{DeskRun, desk_run}

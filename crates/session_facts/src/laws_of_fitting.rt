@@ -3,7 +3,7 @@ ghost use Rattle.std.specs.Prelude.{◌≡◌, ℕ, List, [], ◌∷◌, ◌++�
 ghost use Rattle.idb_schema.specs.Schemas.{SchemaData};
 ghost use Rattle.idb_calls.specs.declared.traces.Outcome.{Outcome};
 ghost use Rattle.name_queues.specs.declared.events.ClientEvent.{ClientEvent};
-ghost use Rattle.idb_desk.specs.declared.steps.DeskStep.TheVariants as step;
+ghost use Rattle.desk_steps.specs.declared.steps.DeskStep.TheVariants as step;
 ghost use Rattle.idb_desk.specs.Steps.{DeskRun, with_step, IsDeskRun};
 ghost use Rattle.desk_facts.specs.Databases.{AreOpenable};
 ghost use Rattle.item_changes.specs.Items.{Items};

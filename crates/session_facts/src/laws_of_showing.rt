@@ -5,7 +5,7 @@ ghost use Rattle.idb_schema.specs.Schemas.{SchemaData};
 ghost use Rattle.idb_calls.specs.Deltas.{DeltaTree};
 ghost use Rattle.idb_calls.specs.declared.traces.Outcome.{Outcome};
 ghost use Rattle.name_queues.specs.declared.events.ClientEvent.{ClientEvent};
-ghost use Rattle.idb_desk.specs.declared.steps.DeskStep.TheVariants as step;
+ghost use Rattle.desk_steps.specs.declared.steps.DeskStep.TheVariants as step;
 ghost use Rattle.idb_desk.specs.Databases.{database_under};
 ghost use Rattle.idb_desk.specs.Refusals.{is_allowed};
 ghost use Rattle.idb_desk.specs.Steps.{DeskRun, desk_run, with_step, IsDeskRun};

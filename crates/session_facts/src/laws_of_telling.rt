@@ -9,7 +9,7 @@ ghost use Rattle.name_queues.specs.declared.events.ClientEvent.TheVariants as ev
 ghost use Rattle.name_queues.specs.declared.ids.ConnId.{ConnId};
 ghost use Rattle.idb_desk.specs.Refusals.{is_allowed, is_committed};
 ghost use Rattle.idb_desk.specs.Steps.{desk_run, event_for};
-ghost use Rattle.idb_desk.specs.declared.steps.DeskStep.TheVariants as step;
+ghost use Rattle.desk_steps.specs.declared.steps.DeskStep.TheVariants as step;
 ghost use Rattle.item_changes.specs.Items.{Database, Items};
 ghost use Rattle.request_lists.specs.Fronts.{new_front};
 ghost use Rattle.request_lists.specs.Placing.{Becomes};

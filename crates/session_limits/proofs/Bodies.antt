@@ -11,8 +11,8 @@ use Rattle.idb_schema.specs.Schemas.{SchemaData}
 use Rattle.idb_desk.specs.Databases.{database_under}
 use Rattle.idb_desk.specs.Refusals.{is_version}
 use Rattle.idb_desk.specs.Steps.{DeskRun, desk_run, IsDeskRun}
-use Rattle.idb_desk.specs.declared.stands.TxKind.{TxKind}
-use Rattle.idb_desk.specs.declared.stands.TxKind.TheVariants as kind
+use Rattle.desk_steps.specs.declared.stands.TxKind.{TxKind}
+use Rattle.desk_steps.specs.declared.stands.TxKind.TheVariants as kind
 use Rattle.desk_facts.specs.Databases.{is_schema_named, AreOpenable}
 use Rattle.item_changes.specs.Items.{Name, Database, Items}
 use Rattle.idb_databases.specs.Items.{AreItems}

@@ -23,11 +23,11 @@ use Rattle.idb_desk.specs.Databases.{database_in, database_under}
 use Rattle.idb_desk.specs.Desks.{DeskState, name_asked_by, drawn_at}
 use Rattle.idb_desk.specs.Refusals.{is_allowed, is_committed, is_schema_for, fits_where, fits_kept, may_leave_where}
 use Rattle.idb_desk.specs.Steps.{after, after_all, new_desk, DeskRun, desk_run, AreAllowed, IsDeskRun}
-use Rattle.idb_desk.specs.declared.stands.DrawnTx.{DrawnTx}
-use Rattle.idb_desk.specs.declared.stands.TxKind.{TxKind}
-use Rattle.idb_desk.specs.declared.stands.TxKind.TheVariants as kind
-use Rattle.idb_desk.specs.declared.steps.DeskStep.{DeskStep}
-use Rattle.idb_desk.specs.declared.steps.DeskStep.TheVariants as step
+use Rattle.desk_steps.specs.declared.stands.DrawnTx.{DrawnTx}
+use Rattle.desk_steps.specs.declared.stands.TxKind.{TxKind}
+use Rattle.desk_steps.specs.declared.stands.TxKind.TheVariants as kind
+use Rattle.desk_steps.specs.declared.steps.DeskStep.{DeskStep}
+use Rattle.desk_steps.specs.declared.steps.DeskStep.TheVariants as step
 use Rattle.desk_facts.specs.Shapes.{HasVersion, IsShaped}
 use Rattle.desk_facts.specs.Orderly.{IsOrderly}
 use Rattle.desk_facts.specs.Databases.{is_schema_named, AreOpenable}

@@ -26,11 +26,11 @@ use Rattle.name_queues.specs.Moves.{closed_conn, tx_ended, upgrade_ended, deleti
 use Rattle.name_queues.specs.Names.{at_first, name_of, is_name, holds, has_place, blank_name, queued, noted_change, one_tx_more}
 use Rattle.connection_queues.specs.Machine.{QueueState, comes_before, put_name, names_of_schemas, enqueued, is_admitted, after_ask, closed, marked_at, names_after_event, taken_event, unhandled, handled, handled_first, schema_of}
 use Rattle.connection_queues.specs.Runs.{settled_name}
-use Rattle.idb_desk.specs.declared.stands.DrawnTx.{DrawnTx}
-use Rattle.idb_desk.specs.declared.stands.TxKind.{TxKind}
-use Rattle.idb_desk.specs.declared.stands.TxKind.TheVariants as kind
-use Rattle.idb_desk.specs.declared.steps.DeskStep.{DeskStep}
-use Rattle.idb_desk.specs.declared.steps.DeskStep.TheVariants as step
+use Rattle.desk_steps.specs.declared.stands.DrawnTx.{DrawnTx}
+use Rattle.desk_steps.specs.declared.stands.TxKind.{TxKind}
+use Rattle.desk_steps.specs.declared.stands.TxKind.TheVariants as kind
+use Rattle.desk_steps.specs.declared.steps.DeskStep.{DeskStep}
+use Rattle.desk_steps.specs.declared.steps.DeskStep.TheVariants as step
 use Rattle.idb_desk.specs.Desks.{DeskState, changes_in, name_asked_by, drawn_at}
 use Rattle.idb_desk.specs.Queueing.{settled_at, settled_where}
 use Rattle.idb_desk.specs.Refusals.{is_committed}

@@ -24,13 +24,13 @@ use Rattle.idb_desk.specs.Databases.{database_in, database_under}
 use Rattle.idb_desk.specs.Desks.{DeskState, name_asked_by, drawn_at}
 use Rattle.idb_desk.specs.Refusals.{is_version, has_version, is_at_limit, refusal_of_ask, is_allowed, is_committed, is_created_stage, is_finished_stage, is_schema_for, fits_where, fits_kept, may_leave_where}
 use Rattle.idb_desk.specs.Steps.{after, after_all, new_desk, DeskRun, desk_run, AreAllowed, IsDeskRun}
-use Rattle.idb_desk.specs.declared.stands.DrawnTx.{DrawnTx}
-use Rattle.idb_desk.specs.declared.stands.TxKind.{TxKind}
-use Rattle.idb_desk.specs.declared.stands.TxKind.TheVariants as kind
-use Rattle.idb_desk.specs.declared.stands.TxStage.{TxStage}
-use Rattle.idb_desk.specs.declared.stands.TxStage.TheVariants as stage
-use Rattle.idb_desk.specs.declared.steps.DeskStep.{DeskStep}
-use Rattle.idb_desk.specs.declared.steps.DeskStep.TheVariants as step
+use Rattle.desk_steps.specs.declared.stands.DrawnTx.{DrawnTx}
+use Rattle.desk_steps.specs.declared.stands.TxKind.{TxKind}
+use Rattle.desk_steps.specs.declared.stands.TxKind.TheVariants as kind
+use Rattle.desk_steps.specs.declared.stands.TxStage.{TxStage}
+use Rattle.desk_steps.specs.declared.stands.TxStage.TheVariants as stage
+use Rattle.desk_steps.specs.declared.steps.DeskStep.{DeskStep}
+use Rattle.desk_steps.specs.declared.steps.DeskStep.TheVariants as step
 use Rattle.desk_facts.specs.Counts.{one_if, Whole, Upgrades, Deletes, kind_for, runs_where, runs_by}
 use Rattle.desk_facts.specs.Drawn.{unfinished_count, whole_of_kind, one_whole}
 use Rattle.desk_facts.specs.Queued.{running_by}

@@ -6,7 +6,7 @@ ghost use Rattle.idb_calls.specs.declared.traces.Outcome.{Outcome};
 ghost use Rattle.name_queues.specs.Names.{has_place};
 ghost use Rattle.name_queues.specs.declared.names.TheConstants.{GREATEST_NAME_COUNT};
 ghost use Rattle.idb_desk.specs.Databases.{database_under};
-ghost use Rattle.idb_desk.specs.declared.steps.DeskStep.TheVariants as step;
+ghost use Rattle.desk_steps.specs.declared.steps.DeskStep.TheVariants as step;
 ghost use Rattle.idb_desk.specs.Refusals.{is_allowed};
 ghost use Rattle.idb_desk.specs.Steps.{DeskRun, desk_run, IsDeskRun};
 ghost use Rattle.desk_facts.specs.Databases.{AreOpenable};

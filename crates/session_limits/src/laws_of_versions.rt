@@ -1,8 +1,8 @@
 // The laws of versions.
 ghost use Rattle.std.specs.Prelude.{◌≡◌, ℕ, true, List, slice_get, Option, Some};
 ghost use Rattle.idb_schema.specs.Schemas.{SchemaData};
-ghost use Rattle.idb_desk.specs.declared.stands.DrawnTx.{DrawnTx};
-ghost use Rattle.idb_desk.specs.declared.stands.TxKind.TheVariants as kind;
+ghost use Rattle.desk_steps.specs.declared.stands.DrawnTx.{DrawnTx};
+ghost use Rattle.desk_steps.specs.declared.stands.TxKind.TheVariants as kind;
 ghost use Rattle.idb_desk.specs.Databases.{database_under};
 ghost use Rattle.idb_desk.specs.Refusals.{is_version};
 ghost use Rattle.idb_desk.specs.Steps.{DeskRun, desk_run, IsDeskRun};

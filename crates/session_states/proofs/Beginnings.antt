@@ -12,8 +12,8 @@ use Rattle.std.proofs.lemmas.Bool.Decides.{eqb_tells}
 use Rattle.std.proofs.lemmas.List.{append-nil, append_assoc, map-append}
 use Rattle.std.proofs.lemmas.List.Concat.{flat_map-append}
 use Rattle.std.proofs.lemmas.List.Sorted.{IsPermutation-append_right, IsPermutation-append_comm}
-use Rattle.client_machine.specs.Acts.{Act, tx_of_act, txs_begun}
-use Rattle.client_machine.specs.ClientStates.{ClientTx}
+use Rattle.client_ties.specs.Acts.{Act, tx_of_act, txs_begun}
+use Rattle.client_ties.specs.ClientStates.{ClientTx}
 use Rattle.client_ties.specs.Unfinished.{UnfinishedTx, AreDrawn}
 use Rattle.session_states.specs.Telling.{BegunAt, begun_at, begun_from, txs_at, shown_begun}
 

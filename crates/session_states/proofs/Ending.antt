@@ -7,21 +7,21 @@ use Rattle.std.proofs.lemmas.List.{append-nil, append_assoc, map-append}
 use Rattle.std.proofs.lemmas.List.Sorted.{IsPermutation-map}
 use Rattle.std.proofs.lemmas.Simd.{map-map}
 use Rattle.name_queues.specs.Mails.{events_of}
-use Rattle.idb_desk.specs.declared.steps.DeskStep.{DeskStep}
+use Rattle.desk_steps.specs.declared.steps.DeskStep.{DeskStep}
 use Rattle.idb_desk.specs.Steps.{DeskRun, desk_run, IsDeskRun}
 use Rattle.item_changes.specs.Items.{Items}
 use Rattle.record_bytes.specs.declared.records.LogRecord.{LogRecord}
 use Rattle.log_history.specs.Batching.{Commit}
 use Rattle.log_history.specs.Kept.{End}
-use Rattle.client_machine.specs.FinishEntries.{FinishEntry}
-use Rattle.client_machine.specs.SerialRuns.{IsSerial, items_after}
-use Rattle.client_machine.specs.NumberOrder.{both_run, IsInOrder, placed_by_number, by_number}
+use Rattle.client_ties.specs.FinishEntries.{FinishEntry}
+use Rattle.client_ties.specs.SerialRuns.{IsSerial, items_after}
+use Rattle.client_ties.specs.NumberOrder.{both_run, IsInOrder, placed_by_number, by_number}
 use Rattle.script_statements.specs.declared.script.Client.{Client}
 use Rattle.script_statements.specs.declared.script.ScriptSession.{ScriptSession}
 use Rattle.script_runs.specs.declared.notes.Note.{Note}
 use Rattle.script_handlers.specs.Handling.{Script, ScriptReacts, ScriptWrites}
-use Rattle.client_machine.specs.Acts.{Act, txs_begun, written_from, lines_of_acts}
-use Rattle.client_machine.specs.ClientStates.{ClientTx}
+use Rattle.client_ties.specs.Acts.{Act, txs_begun, written_from, lines_of_acts}
+use Rattle.client_ties.specs.ClientStates.{ClientTx}
 use Rattle.client_ties.specs.Unfinished.{AreDrawn}
 use Rattle.client_ties.proofs.Laws.{IsSound, none_unfinished}
 use Rattle.legal_sessions.specs.Histories.{AreClientRuns}

@@ -19,11 +19,11 @@ use Rattle.name_queues.specs.declared.events.ClientEvent.TheVariants as event
 use Rattle.name_queues.specs.declared.ids.ConnId.{ConnId}
 use Rattle.connection_queues.specs.Machine.{schema_of}
 use Rattle.scope_desk.specs.Starts.{may_start}
-use Rattle.idb_desk.specs.declared.stands.DrawnTx.{DrawnTx}
-use Rattle.idb_desk.specs.declared.stands.TxKind.{TxKind}
-use Rattle.idb_desk.specs.declared.stands.TxKind.TheVariants as kind
-use Rattle.idb_desk.specs.declared.steps.DeskStep.{DeskStep}
-use Rattle.idb_desk.specs.declared.steps.DeskStep.TheVariants as step
+use Rattle.desk_steps.specs.declared.stands.DrawnTx.{DrawnTx}
+use Rattle.desk_steps.specs.declared.stands.TxKind.{TxKind}
+use Rattle.desk_steps.specs.declared.stands.TxKind.TheVariants as kind
+use Rattle.desk_steps.specs.declared.steps.DeskStep.{DeskStep}
+use Rattle.desk_steps.specs.declared.steps.DeskStep.TheVariants as step
 use Rattle.idb_desk.specs.Desks.{DeskState, DeskBoard, name_asked_by, drawn_at}
 use Rattle.idb_desk.specs.Durabilities.{creates_relaxed, durability_drawn}
 use Rattle.idb_desk.specs.Refusals.{is_to_start, is_committed, is_go, has_some}
@@ -31,15 +31,14 @@ use Rattle.idb_desk.specs.Steps.{after, after_all, after_take, after_created, af
 use Rattle.item_changes.specs.Items.{Items}
 use Rattle.record_bytes.specs.declared.records.LogRecord.{LogRecord}
 use Rattle.log_history.specs.Batching.{is_strict}
-use Rattle.client_machine.specs.FinishEntries.{FinishEntry, did_commit}
+use Rattle.client_ties.specs.FinishEntries.{FinishEntry, did_commit}
 use Rattle.script_statements.specs.declared.script.ScriptSession.{ScriptSession}
 use Rattle.script_runs.specs.declared.notes.Note.{Note}
 use Rattle.script_handlers.specs.Handling.{Script}
-use Rattle.client_machine.specs.Acts.{Told, Act, Makes}
-use Rattle.client_machine.specs.Answering.{told_by, told_steps, is_own, own_told, Agrees, MadeAtOnce}
-use Rattle.client_machine.proofs.Laws.{all_still}
+use Rattle.client_ties.specs.Acts.{Told, Act, Makes}
+use Rattle.client_ties.specs.Answering.{told_by, told_steps, is_own, own_told, Agrees, MadeAtOnce}
+use Rattle.client_ties.proofs.Laws.{all_still, run_before, run_after}
 use Rattle.client_ties.specs.Unfinished.{unfinished_of, AreDrawn}
-use Rattle.client_ties.proofs.Laws.{run_before, run_after}
 use Rattle.legal_sessions.specs.Legal.{is_fault, is_in_doubt, may_write, DoubtsFit, record_of_entry, commits_at, records_logged, records_in_doubt}
 use Rattle.session_states.specs.Sessions.{SessionNow, with_fault}
 use Rattle.session_states.specs.Telling.{told_of, acts_at, BegunAt, shown_begun, RunningTx}

@@ -13,10 +13,10 @@ use Rattle.std.specs.List.{list_any, AllByRecursion}
 use Rattle.std.proofs.lemmas.Bool.{cases_Bool}
 use Rattle.idb_schema.specs.Schemas.{SchemaData}
 use Rattle.idb_calls.specs.declared.traces.Outcome.{Outcome}
-use Rattle.idb_desk.specs.declared.steps.DeskStep.{DeskStep}
-use Rattle.idb_desk.specs.declared.steps.DeskStep.TheVariants as step
-use Rattle.client_machine.specs.FinishEntries.{FinishEntry}
-use Rattle.client_machine.specs.Acts.{Act, Noted, Makes, Fails, Begins, TakesTurn}
+use Rattle.desk_steps.specs.declared.steps.DeskStep.{DeskStep}
+use Rattle.desk_steps.specs.declared.steps.DeskStep.TheVariants as step
+use Rattle.client_ties.specs.FinishEntries.{FinishEntry}
+use Rattle.client_ties.specs.Acts.{Act, Noted, Makes, Fails, Begins, TakesTurn}
 use Rattle.script_runs.specs.declared.notes.Note.{Note}
 use Rattle.script_handlers.specs.Handling.{Script}
 use Rattle.legal_sessions.specs.SerialResults.{leaving_of, is_start_of, is_started, is_leaving_of, has_left}

@@ -13,22 +13,22 @@ use Rattle.std.proofs.lemmas.List.Elements.{filter-append}
 use Rattle.idb_schema.specs.Schemas.{SchemaData}
 use Rattle.idb_calls.specs.Deltas.{DeltaTree}
 use Rattle.idb_calls.specs.declared.traces.Outcome.{Outcome}
-use Rattle.idb_desk.specs.declared.steps.DeskStep.{DeskStep}
-use Rattle.idb_desk.specs.declared.steps.DeskStep.TheVariants as step
+use Rattle.desk_steps.specs.declared.steps.DeskStep.{DeskStep}
+use Rattle.desk_steps.specs.declared.steps.DeskStep.TheVariants as step
 use Rattle.idb_desk.specs.Steps.{DeskRun, desk_run, with_step, IsDeskRun}
 use Rattle.item_changes.specs.Items.{Items}
 use Rattle.item_changes.specs.Effects.{applied_all}
 use Rattle.item_changes.specs.Scopes.{part_of}
-use Rattle.client_machine.specs.FinishEntries.{TxBody, Scripted, Deletion, FinishEntry, scope_of_body, did_commit, changes_kept}
-use Rattle.client_machine.specs.SerialRuns.{joined_lines, RunsOn, NeverStarts, RunsAlone, IsSerial, items_after}
+use Rattle.client_ties.specs.FinishEntries.{TxBody, Scripted, Deletion, FinishEntry, scope_of_body, did_commit, changes_kept}
+use Rattle.client_ties.specs.SerialRuns.{joined_lines, RunsOn, NeverStarts, RunsAlone, IsSerial, items_after}
 use Rattle.script_statements.specs.declared.script.Client.{Client}
 use Rattle.script_statements.specs.declared.script.ScriptSession.{ScriptSession}
 use Rattle.script_runs.specs.declared.notes.Note.{Note}
 use Rattle.script_handlers.specs.Handling.{Script, ScriptReacts, ScriptWrites}
-use Rattle.client_machine.specs.Acts.{Told, Act, Makes, TakesTurn, txs_begun}
-use Rattle.client_machine.specs.Answering.{MadeAtOnce}
-use Rattle.client_machine.specs.ClientStates.{ClientTx, ClientState, is_tx, tx_at, without_tx, with_notes}
-use Rattle.client_machine.specs.ClientSteps.{ClientStep, FinishesTx, FinishesUnstarted, EndsTx}
+use Rattle.client_ties.specs.Acts.{Told, Act, Makes, TakesTurn, txs_begun}
+use Rattle.client_ties.specs.Answering.{MadeAtOnce}
+use Rattle.client_ties.specs.ClientStates.{ClientTx, ClientState, is_tx, tx_at, without_tx, with_notes}
+use Rattle.client_ties.specs.ClientSteps.{ClientStep, FinishesTx, FinishesUnstarted, EndsTx}
 use Rattle.client_ties.specs.Unfinished.{least_of, Draws}
 use Rattle.client_ties.specs.Ties.{shown_tx}
 use Rattle.client_ties.proofs.Laws.{IsSound, Grows, grows_end, notes_txs, made_split, made_before}

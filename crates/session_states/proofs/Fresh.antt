@@ -7,9 +7,9 @@ use Rattle.idb_desk.specs.Steps.{desk_run, IsDeskRun}
 use Rattle.item_changes.specs.Items.{Items}
 use Rattle.script_statements.specs.declared.script.Client.{Client}
 use Rattle.script_statements.specs.declared.script.ScriptSession.{ScriptSession}
-use Rattle.client_machine.specs.Acts.{Act}
-use Rattle.client_machine.specs.ClientSteps.{Rests}
-use Rattle.client_machine.proofs.Laws.{agrees_begins}
+use Rattle.client_ties.specs.Acts.{Act}
+use Rattle.client_ties.specs.ClientSteps.{Rests}
+use Rattle.client_ties.proofs.Laws.{agrees_begins}
 use Rattle.client_ties.specs.Unfinished.{unfinished_of}
 use Rattle.legal_sessions.specs.Histories.{ShowsItems}
 use Rattle.session_states.specs.Sessions.{fresh_seats, fresh_session}

@@ -5,20 +5,20 @@
 use Rattle.std.proofs.Common.{◌≡◌, ◌≤◌, ◌<◌, ℕ, Bool, true, false, ◌&&◌, List, [], ◌∷◌, ◌++◌, map, filter, if◌then◌else◌, Option, Some, refl, sym, ◌∙◌, ap, subst, arith}
 use Rattle.std.specs.Prelude.{◌==◌}
 use Rattle.std.specs.List.{find, AllByRecursion}
-use Rattle.idb_desk.specs.declared.steps.DeskStep.{DeskStep}
+use Rattle.desk_steps.specs.declared.steps.DeskStep.{DeskStep}
 use Rattle.idb_desk.specs.Desks.{DeskState}
 use Rattle.idb_desk.specs.Durabilities.{durability_drawn}
 use Rattle.idb_desk.specs.Steps.{DeskRun, desk_run, with_step, IsDeskRun}
 use Rattle.idb_desk.proofs.Laws.{next_grows, durability_stays}
 use Rattle.record_bytes.specs.declared.records.LogRecord.{LogRecord}
 use Rattle.log_history.specs.Batching.{is_strict}
-use Rattle.client_machine.specs.FinishEntries.{FinishEntry, did_commit}
+use Rattle.client_ties.specs.FinishEntries.{FinishEntry, did_commit}
 use Rattle.script_runs.specs.declared.notes.Note.{Note}
 use Rattle.script_handlers.specs.Handling.{Script}
-use Rattle.client_machine.specs.Acts.{Act, Noted, Makes, Fails, Begins, TakesTurn}
-use Rattle.client_machine.specs.Answering.{MadeAtOnce}
+use Rattle.client_ties.specs.Acts.{Act, Noted, Makes, Fails, Begins, TakesTurn}
+use Rattle.client_ties.specs.Answering.{MadeAtOnce}
 use Rattle.client_ties.proofs.Laws.{run_before, run_after, made_before}
-use Rattle.client_machine.specs.ClientStates.{ClientTx, is_tx}
+use Rattle.client_ties.specs.ClientStates.{ClientTx, is_tx}
 use Rattle.legal_sessions.specs.Legal.{is_in_doubt, may_write, record_of_entry, records_logged, records_in_doubt, commits_at}
 use Rattle.session_states.specs.Telling.{BegunAt, txs_at}
 use Rattle.session_states.specs.UnderWay.{HasBegun, AreFinishedAs}

@@ -8,21 +8,20 @@ use Rattle.std.specs.Prelude.{◌==◌}
 use Rattle.std.specs.List.{find, AllByRecursion}
 use Rattle.std.proofs.lemmas.List.Concat.{flat_map-append}
 use Rattle.std.proofs.lemmas.Option.{slice_get_within}
-use Rattle.idb_desk.specs.declared.steps.DeskStep.TheVariants as step
+use Rattle.desk_steps.specs.declared.steps.DeskStep.TheVariants as step
 use Rattle.idb_desk.specs.Durabilities.{durability_drawn}
 use Rattle.idb_desk.specs.Steps.{DeskRun, desk_run, IsDeskRun}
 use Rattle.item_changes.specs.Items.{Items}
 use Rattle.script_statements.specs.declared.script.Client.{Client}
 use Rattle.script_statements.specs.declared.script.ScriptSession.{ScriptSession}
 use Rattle.script_runs.specs.declared.notes.Note.{Note}
-use Rattle.client_machine.specs.Acts.{Told, Act, Makes, TakesTurn, txs_begun, notes_of_act, notes_of_acts}
-use Rattle.client_machine.specs.Answering.{MadeAtOnce}
-use Rattle.client_machine.specs.ClientStates.{ClientTx, ClientState, is_tx, tx_at, with_started, started_if, with_notes}
-use Rattle.client_machine.specs.ClientSteps.{ClientStep, StartsTx, RunsTurn, StepsOn, may_begin}
-use Rattle.client_machine.proofs.Laws.{agrees_own, agrees_other}
+use Rattle.client_ties.specs.Acts.{Told, Act, Makes, TakesTurn, txs_begun, notes_of_act, notes_of_acts}
+use Rattle.client_ties.specs.Answering.{MadeAtOnce}
+use Rattle.client_ties.specs.ClientStates.{ClientTx, ClientState, is_tx, tx_at, with_started, started_if, with_notes}
+use Rattle.client_ties.specs.ClientSteps.{ClientStep, StartsTx, RunsTurn, StepsOn, may_begin}
+use Rattle.client_ties.proofs.Laws.{agrees_own, agrees_other, IsSound, Grows, notes_txs, least_unfinished}
 use Rattle.client_ties.specs.Unfinished.{UnfinishedTx, unfinished_of, least_of, Draws}
 use Rattle.client_ties.specs.Ties.{shown_tx}
-use Rattle.client_ties.proofs.Laws.{IsSound, Grows, notes_txs, least_unfinished}
 use Rattle.legal_sessions.specs.Histories.{AreOfClients, ShowsItems}
 use Rattle.legal_sessions.specs.SerialResults.{is_started, has_left}
 use Rattle.legal_sessions.specs.Legal.{FitsFault}

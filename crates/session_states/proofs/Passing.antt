@@ -12,14 +12,14 @@ use Rattle.std.proofs.lemmas.List.{append-nil, append_assoc, map-append}
 use Rattle.std.proofs.lemmas.List.Sorted.{IsPermutation-append_left, IsPermutation-trans}
 use Rattle.idb_schema.specs.Schemas.{SchemaData}
 use Rattle.idb_calls.specs.declared.traces.Outcome.{Outcome}
-use Rattle.idb_desk.specs.declared.steps.DeskStep.{DeskStep}
+use Rattle.desk_steps.specs.declared.steps.DeskStep.{DeskStep}
 use Rattle.idb_desk.specs.Steps.{DeskRun, desk_run}
-use Rattle.client_machine.specs.FinishEntries.{FinishEntry}
+use Rattle.client_ties.specs.FinishEntries.{FinishEntry}
 use Rattle.script_runs.specs.declared.notes.Note.{Note}
 use Rattle.script_handlers.specs.Handling.{Script}
-use Rattle.client_machine.specs.Acts.{Act, txs_begun, turns_of}
-use Rattle.client_machine.specs.Answering.{MadeAtOnce}
-use Rattle.client_machine.specs.ClientStates.{ClientTx, is_tx, started_if}
+use Rattle.client_ties.specs.Acts.{Act, txs_begun, turns_of}
+use Rattle.client_ties.specs.Answering.{MadeAtOnce}
+use Rattle.client_ties.specs.ClientStates.{ClientTx, is_tx, started_if}
 use Rattle.client_ties.specs.Unfinished.{started_where, other_drawn, AreDrawn, Draws}
 use Rattle.client_ties.specs.Ties.{shown_tx}
 use Rattle.client_ties.proofs.Laws.{is_tame}

@@ -5,7 +5,7 @@
 use Rattle.std.proofs.Common.{◌≡◌, ◌≢◌, ℕ, zero, suc, ◌+◌, ◌≤◌, List, [], ◌∷◌, slice_get, slice_set, Some, refl, sym, ◌∙◌, subst, arith}
 use Rattle.idb_desk.specs.Steps.{DeskRun}
 use Rattle.script_statements.specs.declared.script.Client.{Client}
-use Rattle.client_machine.specs.Acts.{Act}
+use Rattle.client_ties.specs.Acts.{Act}
 use Rattle.session_states.specs.Sessions.{SeatNow}
 use Rattle.session_states.specs.Telling.{BegunAt}
 use Rattle.session_states.specs.UnderWay.{IsSeatOf, AreSeats}

@@ -11,17 +11,17 @@ use Rattle.std.proofs.lemmas.List.Elements.{All-from_recursion, recursion_from_A
 use Rattle.std.proofs.lemmas.List.Sorted.{All-permutation}
 use Rattle.scope_desk.specs.Starts.{may_start}
 use Rattle.scope_desk.specs.declared.unfinished.MayStart.TheVariants.{Go}
-use Rattle.idb_desk.specs.declared.stands.DrawnTx.{DrawnTx}
-use Rattle.idb_desk.specs.declared.steps.DeskStep.{DeskStep}
-use Rattle.idb_desk.specs.declared.steps.DeskStep.TheVariants as step
+use Rattle.desk_steps.specs.declared.stands.DrawnTx.{DrawnTx}
+use Rattle.desk_steps.specs.declared.steps.DeskStep.{DeskStep}
+use Rattle.desk_steps.specs.declared.steps.DeskStep.TheVariants as step
 use Rattle.idb_desk.specs.Desks.{DeskState, drawn_at}
 use Rattle.idb_desk.specs.Refusals.{is_allowed, is_to_start, is_created_stage, is_go}
 use Rattle.idb_desk.specs.Steps.{DeskRun, desk_run, IsDeskRun}
 use Rattle.item_changes.specs.Items.{Items}
 use Rattle.script_statements.specs.declared.script.Client.{Client}
 use Rattle.script_statements.specs.declared.script.ScriptSession.{ScriptSession}
-use Rattle.client_machine.specs.Acts.{Act, txs_begun}
-use Rattle.client_machine.specs.ClientStates.{ClientTx, is_tx}
+use Rattle.client_ties.specs.Acts.{Act, txs_begun}
+use Rattle.client_ties.specs.ClientStates.{ClientTx, is_tx}
 use Rattle.client_ties.specs.Unfinished.{unfinished_of, is_made_by, least_of}
 use Rattle.client_ties.specs.Ties.{shown_tx, IsTied}
 use Rattle.client_ties.proofs.Laws.{IsSound, first_drawn}

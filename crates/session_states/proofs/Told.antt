@@ -15,12 +15,12 @@ use Rattle.std.proofs.lemmas.List.{append-nil, append_assoc}
 use Rattle.std.proofs.lemmas.List.Concat.{flat_map-append}
 use Rattle.idb_schema.specs.Schemas.{SchemaData}
 use Rattle.idb_calls.specs.declared.traces.Outcome.{Outcome}
-use Rattle.idb_desk.specs.declared.steps.DeskStep.{DeskStep}
-use Rattle.idb_desk.specs.declared.steps.DeskStep.TheVariants as step
+use Rattle.desk_steps.specs.declared.steps.DeskStep.{DeskStep}
+use Rattle.desk_steps.specs.declared.steps.DeskStep.TheVariants as step
 use Rattle.idb_desk.specs.Steps.{DeskRun, with_step}
 use Rattle.idb_desk.specs.Tokens.{client_of}
-use Rattle.client_machine.specs.Acts.{Act, Noted, Makes, Fails, Begins, TakesTurn, turn_of_act, turns_of}
-use Rattle.client_machine.specs.Answering.{MadeAtOnce}
+use Rattle.client_ties.specs.Acts.{Act, Noted, Makes, Fails, Begins, TakesTurn, turn_of_act, turns_of}
+use Rattle.client_ties.specs.Answering.{MadeAtOnce}
 use Rattle.client_ties.proofs.Laws.{is_tame}
 use Rattle.legal_sessions.specs.Histories.{IsOfClients, AreOfClients}
 use Rattle.legal_sessions.specs.SerialResults.{leaving_of, is_start_of, is_started}

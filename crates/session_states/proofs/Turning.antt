@@ -8,13 +8,13 @@ use Rattle.std.proofs.lemmas.List.{append_assoc}
 use Rattle.idb_schema.specs.Schemas.{SchemaData}
 use Rattle.idb_calls.specs.declared.traces.Outcome.{Outcome}
 use Rattle.scope_desk.specs.Starts.{Scopes, finished}
-use Rattle.idb_desk.specs.declared.steps.DeskStep.{DeskStep}
-use Rattle.idb_desk.specs.declared.steps.DeskStep.TheVariants as step
+use Rattle.desk_steps.specs.declared.steps.DeskStep.{DeskStep}
+use Rattle.desk_steps.specs.declared.steps.DeskStep.TheVariants as step
 use Rattle.idb_desk.specs.Desks.{DeskState}
 use Rattle.idb_desk.specs.Steps.{after, DeskRun, desk_run, with_step, IsDeskRun}
 use Rattle.script_runs.specs.declared.notes.Note.{Note}
-use Rattle.client_machine.specs.Acts.{Told, Act, Makes, TakesTurn, txs_begun, turns_of}
-use Rattle.client_machine.specs.Answering.{MadeAtOnce}
+use Rattle.client_ties.specs.Acts.{Told, Act, Makes, TakesTurn, txs_begun, turns_of}
+use Rattle.client_ties.specs.Answering.{MadeAtOnce}
 use Rattle.client_ties.specs.Unfinished.{unfinished_of, started_where, other_drawn, AreDrawn}
 use Rattle.client_ties.proofs.Laws.{step_starts, step_scopes, step_leaves, run_before, run_after, made_turns}
 use Rattle.legal_sessions.specs.SerialResults.{is_start_of, is_started, leaving_of}

@@ -7,18 +7,18 @@ use Rattle.std.specs.Prelude.{◌≡◌, ℕ, ◌+◌, true, false, List, [], �
 use Rattle.idb_schema.specs.Schemas.{SchemaData}
 use Rattle.idb_calls.specs.Deltas.{DeltaTree}
 use Rattle.idb_calls.specs.declared.traces.Outcome.{Outcome}
-use Rattle.idb_desk.specs.declared.stands.DrawnTx.{DrawnTx}
-use Rattle.idb_desk.specs.declared.steps.DeskStep.TheVariants as step
+use Rattle.desk_steps.specs.declared.stands.DrawnTx.{DrawnTx}
+use Rattle.desk_steps.specs.declared.steps.DeskStep.TheVariants as step
 use Rattle.idb_desk.specs.Refusals.{is_allowed}
 use Rattle.idb_desk.specs.Steps.{DeskRun, desk_run, IsDeskRun}
-use Rattle.client_machine.specs.FinishEntries.{TxBody, FinishEntry}
+use Rattle.client_ties.specs.FinishEntries.{TxBody, FinishEntry}
 use Rattle.script_statements.specs.declared.script.Client.{Client}
 use Rattle.script_statements.specs.declared.script.ScriptSession.{ScriptSession}
 use Rattle.script_runs.specs.declared.notes.Note.{Note}
 use Rattle.script_handlers.specs.Handling.{Script}
-use Rattle.client_machine.specs.Acts.{Act, notes_of_acts}
-use Rattle.client_machine.specs.Answering.{MadeAtOnce}
-use Rattle.client_machine.specs.ClientStates.{ClientTx, tx_at}
+use Rattle.client_ties.specs.Acts.{Act, notes_of_acts}
+use Rattle.client_ties.specs.Answering.{MadeAtOnce}
+use Rattle.client_ties.specs.ClientStates.{ClientTx, tx_at}
 use Rattle.session_states.specs.Sessions.{SeatNow, SessionNow}
 use Rattle.session_states.specs.Telling.{RunningTx}
 

@@ -14,7 +14,7 @@ use Rattle.std.specs.List.{AllByRecursion}
 use Rattle.std.specs.FinMap as finite
 use Rattle.idb_schema.specs.Schemas.{SchemaData}
 use Rattle.name_queues.specs.Mails.{events_of}
-use Rattle.idb_desk.specs.declared.steps.DeskStep.TheVariants as step
+use Rattle.desk_steps.specs.declared.steps.DeskStep.TheVariants as step
 use Rattle.idb_desk.specs.Steps.{DeskRun, desk_run, with_step}
 use Rattle.idb_desk.specs.Tokens.{token_of}
 use Rattle.idb_desk.specs.Waiting.{pending_of}
@@ -23,12 +23,12 @@ use Rattle.item_changes.specs.Effects.{applied_all}
 use Rattle.log_history.specs.Batching.{Commit}
 use Rattle.log_history.specs.Kept.{End}
 use Rattle.report_lines.specs.declared.reports.Report.{Report}
-use Rattle.client_machine.specs.FinishEntries.{FinishEntry, changes_kept}
+use Rattle.client_ties.specs.FinishEntries.{FinishEntry, changes_kept}
 use Rattle.script_statements.specs.declared.script.Client.{Client}
 use Rattle.script_runs.specs.declared.notes.Note.{Note}
 use Rattle.script_handlers.specs.Handling.{Script}
-use Rattle.client_machine.specs.Acts.{written_from}
-use Rattle.client_machine.specs.ClientStates.{ClientState, fresh_client}
+use Rattle.client_ties.specs.Acts.{written_from}
+use Rattle.client_ties.specs.ClientStates.{ClientState, fresh_client}
 use Rattle.client_ties.specs.Unfinished.{least_of}
 use Rattle.legal_sessions.specs.Legal.{has_of, records_logged, records_in_doubt, commits_at, report_end}
 

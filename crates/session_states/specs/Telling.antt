@@ -12,12 +12,12 @@
 use Rattle.std.specs.Prelude.{ℕ, ◌+◌, Bool, false, ◌==◌, List, [], ◌∷◌, ◌++◌, map, slice_get, if◌then◌else◌, Option, Some, None}
 use Rattle.idb_schema.specs.Schemas.{SchemaData}
 use Rattle.idb_calls.specs.declared.traces.Outcome.{Outcome}
-use Rattle.idb_desk.specs.declared.steps.DeskStep.{DeskStep}
-use Rattle.client_machine.specs.FinishEntries.{TxBody, FinishEntry}
+use Rattle.desk_steps.specs.declared.steps.DeskStep.{DeskStep}
+use Rattle.client_ties.specs.FinishEntries.{TxBody, FinishEntry}
 use Rattle.script_runs.specs.declared.notes.Note.{Note}
 use Rattle.script_handlers.specs.Handling.{Script}
-use Rattle.client_machine.specs.Acts.{Act, txs_begun, turns_of}
-use Rattle.client_machine.specs.ClientStates.{ClientTx}
+use Rattle.client_ties.specs.Acts.{Act, txs_begun, turns_of}
+use Rattle.client_ties.specs.ClientStates.{ClientTx}
 use Rattle.client_ties.specs.Unfinished.{UnfinishedTx}
 use Rattle.client_ties.specs.Ties.{shown_tx}
 use Rattle.legal_sessions.specs.SerialResults.{leaving_of, is_started}

@@ -14,19 +14,19 @@
 use Rattle.std.specs.Prelude.{◌≡◌, ℕ, ◌+◌, ◌≤◌, Bool, true, List, [], ◌∷◌, ◌++◌, length, map, Option, Some, None, ⊤}
 use Rattle.std.specs.List.{list_any, AllByRecursion}
 use Rattle.std.specs.List.Sorted.{IsPermutation}
-use Rattle.idb_desk.specs.declared.steps.DeskStep.{DeskStep}
+use Rattle.desk_steps.specs.declared.steps.DeskStep.{DeskStep}
 use Rattle.idb_desk.specs.Steps.{DeskRun, desk_run, IsDeskRun}
 use Rattle.item_changes.specs.Items.{Items}
-use Rattle.client_machine.specs.FinishEntries.{FinishEntry}
-use Rattle.client_machine.specs.SerialRuns.{IsSerial, items_after}
+use Rattle.client_ties.specs.FinishEntries.{FinishEntry}
+use Rattle.client_ties.specs.SerialRuns.{IsSerial, items_after}
 use Rattle.script_statements.specs.declared.script.Client.{Client}
 use Rattle.script_statements.specs.declared.script.ScriptSession.{ScriptSession}
 use Rattle.script_runs.specs.declared.notes.Note.{Note}
 use Rattle.script_handlers.specs.Handling.{Script, ScriptReacts, ScriptWrites}
-use Rattle.client_machine.specs.Acts.{Act, notes_of_acts}
-use Rattle.client_machine.specs.Answering.{Agrees}
-use Rattle.client_machine.specs.ClientStates.{fresh_client}
-use Rattle.client_machine.specs.ClientSteps.{ClientRuns}
+use Rattle.client_ties.specs.Acts.{Act, notes_of_acts}
+use Rattle.client_ties.specs.Answering.{Agrees}
+use Rattle.client_ties.specs.ClientStates.{fresh_client}
+use Rattle.client_ties.specs.ClientSteps.{ClientRuns}
 use Rattle.client_ties.specs.Unfinished.{unfinished_of, AreDrawn}
 use Rattle.legal_sessions.specs.Histories.{AreOfClients, ShowsItems}
 use Rattle.legal_sessions.specs.SerialResults.{number_of_entry, has_left}

@@ -9,11 +9,11 @@ use Rattle.std.specs.declared.cmp.Ordering.TheVariants.{Less, Equal, Greater}
 use Rattle.std.specs.Cmp.{IsTotalOrder}
 use Rattle.std.specs.FinMap.{IsAntisymmetric}
 use Rattle.std.proofs.lemmas.Cmp.{on_total}
-use Rattle.clone_values.specs.declared.key_types.Key.{Key}
-use Rattle.clone_values.specs.declared.key_types.Key.TheVariants as key
-use Rattle.clone_values.specs.View.{key_tree_of}
-use Rattle.clone_values.specs.KeyTree.{KeyTree, key_trees_of, list_of_keys}
-use Rattle.clone_values.specs.KeyTree as keys
+use Rattle.key_order.specs.Key.{Key}
+use Rattle.key_order.specs.Key.TheVariants as key
+use Rattle.key_order.specs.View.{key_tree_of}
+use Rattle.key_order.specs.KeyTree.{KeyTree, key_trees_of, list_of_keys}
+use Rattle.key_order.specs.KeyTree as keys
 use Rattle.key_order.specs.KeyOrder.{key_cmp}
 use Rattle.key_order.proofs.Laws.{key_cmp_total, key_cmp_same}
 

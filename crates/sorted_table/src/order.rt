@@ -6,8 +6,7 @@ ghost use Rattle.std.specs.Cmp.{IsTotalOrder};
 ghost use Rattle.std.specs.FinMap.{IsAntisymmetric};
 ghost use Rattle.sorted_table.specs.Orders.{precedes, by_key_order, by_key_order_total, by_key_order_same, abbreviated_key, abbreviated_key_tells};
 
-use clone_values::Key;
-use key_order::compare;
+use key_order::{Key, compare};
 use std::cmp::Ordering;
 
 /// A type whose values are in a total order in which only equal values tie.

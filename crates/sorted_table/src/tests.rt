@@ -4,8 +4,8 @@ ghost use Rattle.std.specs.Cmp.{nat_cmp_total};
 ghost use Rattle.std.specs.FinMap.{nat_cmp-IsAntisymmetric};
 
 use super::*;
-use clone_values::{Key, Keys, Text};
 use idb_base::NoMemory;
+use key_order::{Key, Keys, Text};
 use std::alloc::Global;
 use std::cmp::Ordering;
 use std::marker::Brand;

@@ -16,7 +16,7 @@ use Rattle.index_tables.specs.Rows.{RowTree, is_row, among, rows_of}
 use Rattle.index_tables.specs.Orders.{row_cmp_total}
 use Rattle.index_tables.specs.RecordRows.{Records, index_rows, gives_key}
 use Rattle.indexed_records.proofs.Laws.{record_found}
-use Rattle.range_reads.proofs.Laws.{row_shown_by_key}
+use Rattle.object_stores.proofs.Laws.{row_shown_by_key}
 use Rattle.object_stores.specs.Store.{Store}
 use Rattle.object_stores.specs.Showing.{shown_in}
 use Rattle.store_cursors.specs.Members.{member_value}

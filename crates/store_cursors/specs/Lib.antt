@@ -1,2 +1,3 @@
 pub mod Members
 pub mod View
+pub use Rattle.indexed_records.specs.Reading

@@ -4,7 +4,7 @@
 use Rattle.std.proofs.Common.{◌≡◌, Bool, true, false, cond, ◌&&◌, List, [], ◌∷◌, ◌++◌, refl, sym, ap, subst, ◌∙◌, Option, Some}
 use Rattle.std.specs.FinMap as finite
 use Rattle.std.specs.Cmp.{eq_by_cmp_equiv}
-use Rattle.object_stores.specs.Store.{Store}
+use Rattle.item_changes.specs.Store.{Store}
 use Rattle.idb_calls.specs.Deltas.{DeltaTree}
 use Rattle.item_changes.specs.Items.{Name, is_same_name, Database, stood_at}
 use Rattle.item_changes.specs.Effects.{OnStore, effect_of, database_of, finds, made, made_all, finds_all}

@@ -3,3 +3,4 @@ pub mod RemovalLemmas
 pub mod StoringLemmas
 pub mod Chains
 pub mod RunChains
+pub mod Laws

@@ -19,12 +19,12 @@ use Rattle.idb_keys.specs.declared.names.Over.TheVariants as over
 use Rattle.idb_calls.specs.Deltas.{Put, Remove, Clear, Current}
 use Rattle.sorted_table.proofs.Laws.{is_less, first, second}
 use Rattle.index_tables.specs.Rows.{RowTree}
-use Rattle.indexed_records.specs.Reading.{selected, primary_keys}
-use Rattle.indexed_records.proofs.Laws.{record_found}
-use Rattle.object_stores.specs.Store.{Store}
-use Rattle.object_stores.specs.Changed.{store_with_record, store_without_record, without_records, with_current, cleared}
-use Rattle.object_stores.specs.Storing.{Entry, CanStore, HasKey, in_line, key_found, entry_by, entry_for, with_entry, is_refused}
-use Rattle.object_stores.proofs.Laws.{deleted_changes}
+use Rattle.store_cursors.specs.Reading.{selected, primary_keys}
+use Rattle.store_cursors.proofs.Laws.{record_found}
+use Rattle.item_changes.specs.Store.{Store}
+use Rattle.item_changes.specs.Changed.{store_with_record, store_without_record, without_records, with_current, cleared}
+use Rattle.item_changes.specs.Storing.{Entry, CanStore, HasKey, in_line, key_found, entry_by, entry_for, with_entry, is_refused}
+use Rattle.item_changes.proofs.Laws.{deleted_changes}
 use Rattle.item_changes.specs.Effects.{has_record, has_generator, is_store_with, if_there}
 use Rattle.store_requests.specs.Answers.{in_reach}
 use Rattle.store_requests.specs.Runs.{storing, deleting, clearing, entry_run, stored_run, refused_run, number_changes, entry_changes, removals}

@@ -7,8 +7,8 @@ use Rattle.clone_values.specs.Tree.{Tree}
 use Rattle.clone_values.specs.KeyTree.{KeyTree}
 use Rattle.clone_values.specs.KeyValues.{value_of_key}
 use Rattle.key_order.proofs.Laws.{key_cmp_total}
-use Rattle.object_stores.specs.Store.{Store}
-use Rattle.object_stores.specs.Storing.{Entry, Outcome, entry_for, is_refused, outcome_of, stored_as, stored, refused, with_entry}
+use Rattle.item_changes.specs.Store.{Store}
+use Rattle.item_changes.specs.Storing.{Entry, Outcome, entry_for, is_refused, outcome_of, stored_as, stored, refused, with_entry}
 use Rattle.std.proofs.lemmas.List.{append-nil}
 use Rattle.idb_calls.specs.Deltas.{DeltaTree}
 use Rattle.store_requests.specs.Runs.{Ran, HasRun, storing, entry_run, stored_run, refused_run, number_changes, record_changes}

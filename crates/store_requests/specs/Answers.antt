@@ -13,9 +13,9 @@ use Rattle.clone_values.specs.KeyValues.{value_of_key}
 use Rattle.idb_keys.specs.KeyRange.{Range}
 use Rattle.idb_keys.specs.declared.names.Over.{Over}
 use Rattle.index_tables.specs.Rows.{RowTree}
-use Rattle.indexed_records.specs.Reading.{selected, limited, primary_keys, values_in, first_primary, first_value}
-use Rattle.object_stores.specs.Store.{Store}
-use Rattle.object_stores.specs.Showing.{shown_in}
+use Rattle.store_cursors.specs.Reading.{selected, limited, primary_keys, values_in, first_primary, first_value}
+use Rattle.item_changes.specs.Store.{Store}
+use Rattle.item_changes.specs.Showing.{shown_in}
 
 abbrev pub in_reach : Store → Over → Range → List RowTree
 in_reach store over range = selected range (shown_in store over)

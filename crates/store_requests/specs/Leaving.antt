@@ -4,7 +4,7 @@
 --                           store to write allows them
 use Rattle.std.specs.Prelude.{◌≡◌, true, List, Some}
 use Rattle.std.specs.FinMap as finite
-use Rattle.object_stores.specs.Store.{Store}
+use Rattle.item_changes.specs.Store.{Store}
 use Rattle.item_changes.specs.Items.{Name, Database}
 use Rattle.item_changes.specs.Effects.{made_all, finds_all}
 use Rattle.item_changes.specs.Scopes.{Writes, Whole, is_among, AllWithin}

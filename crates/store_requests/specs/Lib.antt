@@ -2,7 +2,9 @@ pub mod Answers
 pub mod Runs
 pub mod Leaving
 pub use Rattle.store_cursors.specs.Members
-pub use Rattle.object_stores.specs.Changed
-pub use Rattle.object_stores.specs.Showing
-pub use Rattle.object_stores.specs.Store
-pub use Rattle.object_stores.specs.Storing
+pub use Rattle.item_changes.specs.Changed
+pub use Rattle.item_changes.specs.Showing
+pub use Rattle.item_changes.specs.Store
+pub use Rattle.item_changes.specs.Storing
+pub use Rattle.item_changes.specs.Effects
+pub use Rattle.item_changes.specs.Items

@@ -10,10 +10,10 @@ use Rattle.clone_values.specs.KeyValues.{value_of_key}
 use Rattle.idb_keys.specs.KeyRange.{Range}
 use Rattle.idb_keys.specs.declared.names.Over.TheVariants as over
 use Rattle.idb_calls.specs.Deltas.{DeltaTree, Put, Remove, Clear, Current}
-use Rattle.indexed_records.specs.Reading.{primary_keys}
-use Rattle.object_stores.specs.Store.{Store}
-use Rattle.object_stores.specs.Changed.{without_range, cleared}
-use Rattle.object_stores.specs.Storing.{Entry, entry_for, is_refused, with_entry}
+use Rattle.store_cursors.specs.Reading.{primary_keys}
+use Rattle.item_changes.specs.Store.{Store}
+use Rattle.item_changes.specs.Changed.{without_range, cleared}
+use Rattle.item_changes.specs.Storing.{Entry, entry_for, is_refused, with_entry}
 use Rattle.store_requests.specs.Answers.{in_reach}
 use Rattle.store_requests.specs.declared.changes.StoreNames.{StoreNames}
 

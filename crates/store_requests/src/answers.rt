@@ -7,8 +7,8 @@ use clone_values::{Key, Props, Value};
 use idb_base::{GREATEST_INT, NoMemory};
 use idb_keys::{KeyRange, Over};
 use index_tables::Tables;
+use item_changes::StoreVersion;
 use key_paths::to_value;
-use object_stores::StoreVersion;
 use std::alloc::Global;
 
 /// `get`: the value of the first record in range; over an index, of the record of its first row.

@@ -3,8 +3,8 @@ ghost use Rattle.std.specs.Prelude.{◌≡◌, ◌++◌, Some, None, option_map,
 ghost use Rattle.std.specs.FinMap as finite;
 ghost use Rattle.clone_values.specs.KeyValues.{value_of_key};
 ghost use Rattle.clone_values.specs.View.{tree_of, key_tree_of};
-ghost use Rattle.object_stores.specs.Store.{KeepsPast};
-ghost use Rattle.object_stores.specs.Storing.{CanStore};
+ghost use Rattle.item_changes.specs.Store.{KeepsPast};
+ghost use Rattle.item_changes.specs.Storing.{CanStore};
 ghost use Rattle.store_requests.specs.Runs.{storing, deleting, clearing, number_changes, record_changes, removals, HasRun};
 
 use clone_values::{Key, Keys, Text, Value, copy_value};
@@ -12,8 +12,8 @@ use idb_base::NoMemory;
 use idb_calls::{Delta, Deltas};
 use idb_keys::{KeyRange, Over};
 use index_tables::Tables;
+use item_changes::{StoreError, StoreVersion};
 use key_paths::to_value;
-use object_stores::{StoreError, StoreVersion};
 use std::alloc::Global;
 
 /// The names by which changes speak of a store.

@@ -4,7 +4,7 @@ ghost use Rattle.idb_base.specs.Lists.{IsWithinLimit};
 ghost use Rattle.clone_values.specs.View.{tree_of, key_tree_of, prop_of};
 ghost use Rattle.idb_cursors.specs.Cursors.{turn_of, iterated, cursor_after};
 ghost use Rattle.idb_cursors.specs.View.{key_shown};
-ghost use Rattle.object_stores.specs.Showing.{shown_in};
+ghost use Rattle.item_changes.specs.Showing.{shown_in};
 ghost use Rattle.store_cursors.specs.Members.{member_taken};
 ghost use Rattle.store_requests.specs.Answers.{cursor_answer, member_answer};
 
@@ -13,8 +13,8 @@ use idb_base::NoMemory;
 use idb_cursors::Cursor;
 use idb_keys::Over;
 use index_tables::Tables;
+use item_changes::StoreVersion;
 use key_paths::to_value;
-use object_stores::StoreVersion;
 use std::alloc::Global;
 use store_cursors::{Member, take_turn};
 

@@ -14,7 +14,7 @@ use Rattle.name_queues.specs.declared.ids.ConnId.{ConnId}
 use Rattle.name_queues.specs.declared.asks.Wants.{Wants}
 use Rattle.connection_queues.specs.Machine.{schema_of}
 use Rattle.idb_schema.specs.Schemas.{SchemaData}
-use Rattle.idb_desk.specs.declared.steps.DeskStep.TheVariants as step
+use Rattle.desk_steps.specs.declared.steps.DeskStep.TheVariants as step
 use Rattle.idb_desk.specs.Desks.{DeskState}
 use Rattle.idb_desk.specs.Refusals.{is_allowed, refusal_of_step, refusal_of_ask, refusal_of_create}
 use Rattle.idb_desk.specs.Steps.{DeskRun, desk_run, with_step}

@@ -12,8 +12,8 @@ use Rattle.idb_schema.specs.Schemas.{SchemaData}
 use Rattle.item_changes.specs.Items.{Name}
 use Rattle.name_queues.specs.declared.ids.ConnId.{ConnId}
 use Rattle.name_queues.specs.declared.asks.Wants.{Wants}
-use Rattle.idb_desk.specs.declared.steps.DeskStep.{DeskStep}
-use Rattle.idb_desk.specs.declared.steps.DeskStep.TheVariants as step
+use Rattle.desk_steps.specs.declared.steps.DeskStep.{DeskStep}
+use Rattle.desk_steps.specs.declared.steps.DeskStep.TheVariants as step
 use Rattle.idb_desk.specs.Refusals.{is_allowed, refusal_of_step}
 use Rattle.idb_desk.specs.Steps.{DeskRun, desk_run, with_step}
 use Rattle.connection_queues.specs.Machine.{schema_of}

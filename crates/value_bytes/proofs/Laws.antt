@@ -11,5 +11,5 @@ pub use Rattle.value_bytes.proofs.Grammars.{Grammar, Stood, stood, refused, told
 pub use Rattle.value_bytes.proofs.FieldFormats.{count, word, number, string, byte_string, text, counted}
 pub use Rattle.value_bytes.proofs.Values.{value, value_grammar}
 pub use Rattle.value_bytes.proofs.KeyValues.{key, key_grammar}
-pub use Rattle.value_bytes.proofs.Loop.{with_front, goes_on, ends, is_done, front_empty}
+pub use Rattle.value_bytes.proofs.Loop.{with_front, goes_on, ends, is_done}
 pub use Rattle.value_bytes.proofs.Puts.{begins_more, begins_then}

@@ -37,10 +37,6 @@ module _ {A : Type 0} (r : List ℕ → Option (A × List ℕ)) (count i : ℕ) 
       let one : with_front front (many_at r (count - i) bytes) ≡ Some (front, bytes) = rw k (ap (λ (ns : List A). Some (ns, bytes)) (append-nil front)) in
       sym so_far ∙ one
 
-pub front_empty : {A : Type 0} (read : Option (List A × List ℕ)) → with_front [] read ≡ read
-front_empty None = refl
-front_empty (Some x) = refl
-
 -- a count of what was passed, and of what is left, once nothing is left
 pub all_counted : {A : Type 0} (f : List A → ℕ) (xs : List A) (i size total : ℕ) → f [] ≡ 0 → length xs ≤ i → size ≤ 18446744073709551615 → min (size + f (drop i xs)) 18446744073709551615 ≡ total → size ≡ total
 all_counted f xs i size total none le fits e = let gone : f (drop i xs) ≡ 0 = ap f (drop_all i xs le) ∙ none in omega arith

@@ -90,23 +90,3 @@ by_levels (json.object ms) = by (any_marked ms) (nat_le (members_len ms) 4294967
 pub two_members_level : (es left more : List Entry) (m o : Entry) → es ≡ m ∷ left → left ≡ o ∷ more → more ≡ [] → is_full_array (string_bytes m.0) (string_bytes o.0) ≡ true
     → object_level (members_view es) ≡ lists_level (view m.1) (view o.1)
 two_members_level es left more m o first second end names = rw (first, second, end, names) refl
-
--- a level that is read where its value is
-pub unread_leaf : (e : JsonError) (o : Option Tree) → IsUnread e o → IsUnread e (option_map leaf o)
-unread_leaf Spelling o h = rw h refl
-unread_leaf NoMemory o h = tt
-
--- a list that is too long behind a mark
-no_list : (m : Mark) (ds : Items) → short_in ds ≡ None → marked_level (Some m) (json.array ds) ≡ None
-no_list mark.Undefined ds h = refl
-no_list mark.Function ds h = refl
-no_list mark.Date ds h = refl
-no_list mark.Bytes ds h = refl
-no_list mark.Array ds h = ap (option_map items_level) h
-no_list mark.Object ds h = ap (option_map named_members_level) h
-no_list mark.Map ds h = ap (option_map entries_level) h
-no_list mark.Set ds h = ap (option_map set_level) h
-
-pub unread_list : (e : JsonError) (m : Mark) (ds : Items) → IsUnread e (short_in ds) → IsUnread e (marked_level (Some m) (json.array ds))
-unread_list Spelling m ds h = no_list m ds h
-unread_list NoMemory m ds h = tt

@@ -3,7 +3,7 @@ use Rattle.std.proofs.Common.{◌≡◌, ℕ, ◌≤◌, ◌<◌, zero, suc, tru
 use Rattle.std.proofs.lemmas.List.{drop_all}
 use Rattle.clone_values.specs.Tree.{Tree, members_of}
 use Rattle.clone_values.specs.Names.{names_of, is_rising}
-use Rattle.clone_values.proofs.Lists.{members_again}
+use Rattle.clone_values.proofs.Laws.{members_again}
 use Rattle.json.specs.Token.{Token, begin_object, end_object, begin_array, key}
 use Rattle.json.specs.Tree.{json_tokens, items_tokens, members_tokens}
 use Rattle.serde_json.specs.Data.{Data}

@@ -3,7 +3,7 @@ ghost use Rattle.std.specs.Prelude.{◌≡◌, ◌<◌, ◌≤◌, Some, None, l
 ghost use Rattle.indexed_records.specs.Causes.{IsCause};
 ghost use Rattle.index_tables.specs.Unique.{broken_key};
 ghost use Rattle.index_tables.specs.RecordRows.{index_rows};
-ghost use Rattle.indexed_records.specs.Contents.{info_with_index, info_without_last, info_without_index, info_with_index_at};
+ghost use Rattle.store_contents.specs.Contents.{info_with_index, info_without_last, info_without_index, info_with_index_at};
 
 use super::IndexedRecords;
 use crate::building::add_last;

@@ -5,8 +5,8 @@ ghost use Rattle.clone_values.specs.Tree.{Tree};
 ghost use Rattle.clone_values.specs.KeyTree.{KeyTree};
 ghost use Rattle.clone_values.specs.View.{key_tree_of, tree_of};
 ghost use Rattle.index_tables.specs.Unique.{is_broken};
-ghost use Rattle.indexed_records.specs.Contents.{IsRecordAt, IsGapOf, rows_in_indexes, rows_among, row_sets};
-ghost use Rattle.indexed_records.specs.Sameness.{gives_same_rows};
+ghost use Rattle.store_contents.specs.Contents.{IsRecordAt, IsGapOf, rows_in_indexes, rows_among, row_sets};
+ghost use Rattle.store_contents.specs.Sameness.{gives_same_rows};
 
 use super::IndexedRecords;
 use crate::clashing::clashes_any;

@@ -1,4 +1,4 @@
-use Rattle.key_order.proofs.Laws.{key_cmp_total, key_cmp_same}
+use Rattle.key_order.proofs.TotalOrder.{key_cmp_total, key_cmp_same}
 use Rattle.key_order.proofs.TextOrder.{bytes_differ}
 use Rattle.key_order.proofs.key_order_laws.Goals as goal
 

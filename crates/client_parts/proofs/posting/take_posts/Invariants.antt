@@ -1,5 +1,5 @@
 use Rattle.std.proofs.Common.{◌≡◌, drop}
-use Rattle.client_machine.specs.ClientStates.{with_notes}
+use Rattle.client_seats.specs.ClientStates.{with_notes}
 use Rattle.client_seats.specs.Seating.{SitsAlike}
 use Rattle.client_parts.specs.Clients.{client_seen}
 use Rattle.client_parts.proofs.posting.take_posts.Given as goal

@@ -1,5 +1,5 @@
 use Rattle.std.proofs.Common.{◌≡◌, ℕ, ◌<◌, ◌≤◌, ◌+◌, ◌-◌, ◌/◌, List, length, get_or, arith, sym, ◌∙◌}
-use Rattle.client_machine.specs.ClientStates.{ClientTx}
+use Rattle.client_seats.specs.ClientStates.{ClientTx}
 use Rattle.scope_desk.specs.Rising.{IsRisingFrom}
 use Rattle.client_parts.proofs.Rising.{in_order}
 use Rattle.client_parts.proofs.Places.{numbers, length_numbers, number_at, found_at, found_nowhere}

@@ -1,5 +1,5 @@
 use Rattle.std.proofs.Common.{ℕ, ◌<◌, ◌≤◌, ◌-◌, length, get_or, map}
-use Rattle.client_machine.specs.ClientStates.{ClientTx}
+use Rattle.client_seats.specs.ClientStates.{ClientTx}
 use Rattle.client_parts.proofs.tx_places.place_of.Given as goal
 
 -- the numbers before `low` are smaller, those from `high` on greater

@@ -1,6 +1,6 @@
 use Rattle.std.proofs.Common.{sym, ◌∙◌, ap, Some, slice_set}
 use Rattle.std.proofs.lemmas.Option.{slice_get-get_or}
-use Rattle.client_machine.specs.ClientStates.{ClientTx}
+use Rattle.client_seats.specs.ClientStates.{ClientTx}
 use Rattle.client_parts.specs.Standing.{begins_of}
 use Rattle.client_parts.proofs.Places.{begun_tx, found, not_found, started_at, started_none}
 use Rattle.client_parts.proofs.tx_places.start.Goals as goal

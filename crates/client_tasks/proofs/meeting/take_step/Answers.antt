@@ -1,5 +1,5 @@
 use Rattle.std.proofs.Common.{refl}
-use Rattle.idb_desk.specs.declared.steps.DeskStep.TheVariants as step
+use Rattle.desk_steps.specs.declared.steps.DeskStep.TheVariants as step
 use Rattle.client_parts.specs.Clients.{client_seen}
 use Rattle.client_tasks.proofs.Staying.{later_seated}
 use Rattle.client_tasks.proofs.meeting.take_step.Goals as goal

@@ -1,7 +1,7 @@
 use Rattle.std.proofs.Common.{◌≡◌, drop}
-use Rattle.clone_values.specs.Tree.{tree_size, trees_size, members_size, pairs_size, trees_of, members_of, pairs_of}
+use Rattle.value_trees.specs.Tree.{tree_size, trees_size, members_size, pairs_size, trees_of, members_of, pairs_of}
 use Rattle.clone_values.specs.View.{tree_of}
-use Rattle.clone_values.specs.WellFormed.{are_values, member_values, pair_values}
+use Rattle.value_trees.specs.WellFormed.{are_values, member_values, pair_values}
 use Rattle.clone_values.proofs.checking.+well_formed.Given as goal
 
 abbrev pub decreases-well_formed : goal.decreases-well_formed

@@ -1,6 +1,6 @@
 use Rattle.std.proofs.Common.{◌≡◌, drop}
 use Rattle.std.specs.List.{list_all}
-use Rattle.clone_values.specs.WellFormed.{is_digit}
+use Rattle.value_trees.specs.WellFormed.{is_digit}
 use Rattle.clone_values.proofs.checking.are_digits.Given as goal
 
 -- the bytes so far are digits

@@ -1,7 +1,7 @@
 use Rattle.std.proofs.Common.{◌≡◌, drop}
 use Rattle.std.specs.List.{list_all}
-use Rattle.clone_values.specs.Names.{names_of}
-use Rattle.clone_values.specs.WellFormed.{is_text}
+use Rattle.value_trees.specs.Names.{names_of}
+use Rattle.value_trees.specs.WellFormed.{is_text}
 use Rattle.clone_values.proofs.checking.are_properties.Given as goal
 
 -- the names so far are texts of a stored size

@@ -1,5 +1,5 @@
 use Rattle.std.proofs.Common.{refl, arith}
-use Rattle.clone_values.proofs.Lists.{all_bytes}
+use Rattle.value_trees.proofs.Laws.{all_bytes}
 use Rattle.clone_values.proofs.checking.is_byte_string.Goals as goal
 
 pub returns : goal.returns

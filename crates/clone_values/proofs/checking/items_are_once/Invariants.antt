@@ -1,5 +1,5 @@
 use Rattle.std.proofs.Common.{◌≡◌, drop}
-use Rattle.clone_values.specs.WellFormed.{are_once}
+use Rattle.value_trees.specs.WellFormed.{are_once}
 use Rattle.clone_values.proofs.checking.items_are_once.Given as goal
 
 -- no item so far stands again

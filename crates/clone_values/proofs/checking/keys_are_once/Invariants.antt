@@ -1,5 +1,5 @@
 use Rattle.std.proofs.Common.{◌≡◌, drop, map}
-use Rattle.clone_values.specs.WellFormed.{are_once}
+use Rattle.value_trees.specs.WellFormed.{are_once}
 use Rattle.clone_values.proofs.checking.keys_are_once.Given as goal
 
 -- no key so far stands again

@@ -1,7 +1,7 @@
 use Rattle.std.proofs.Common.{◌≡◌, drop}
 use Rattle.std.specs.List.{list_any}
 use Rattle.clone_values.specs.View.{tree_of}
-use Rattle.clone_values.specs.Sameness.{repeats}
+use Rattle.value_trees.specs.Sameness.{repeats}
 use Rattle.clone_values.proofs.checking.stands_from.Given as goal
 
 -- the items so far are others

@@ -1,7 +1,7 @@
 use Rattle.std.proofs.Common.{◌≡◌, drop}
-use Rattle.clone_values.specs.Tree.{tree_size, trees_size, members_size, pairs_size, trees_of, members_of, pairs_of}
+use Rattle.value_trees.specs.Tree.{tree_size, trees_size, members_size, pairs_size, trees_of, members_of, pairs_of}
 use Rattle.clone_values.specs.View.{tree_of}
-use Rattle.clone_values.specs.Cloneable.{are_cloneable_within, members_cloneable_within, pairs_cloneable_within}
+use Rattle.value_trees.specs.Cloneable.{are_cloneable_within, members_cloneable_within, pairs_cloneable_within}
 use Rattle.clone_values.proofs.cloning.+cloneable.Given as goal
 
 abbrev pub decreases-is_within : goal.decreases-is_within

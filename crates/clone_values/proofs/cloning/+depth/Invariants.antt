@@ -1,7 +1,7 @@
 use Rattle.std.proofs.Common.{◌≡◌, min, max, drop}
-use Rattle.clone_values.specs.Tree.{tree_size, trees_size, members_size, pairs_size, trees_of, members_of, pairs_of}
+use Rattle.value_trees.specs.Tree.{tree_size, trees_size, members_size, pairs_size, trees_of, members_of, pairs_of}
 use Rattle.clone_values.specs.View.{tree_of}
-use Rattle.clone_values.specs.Values.{trees_depth, members_depth, pairs_depth}
+use Rattle.value_trees.specs.Values.{trees_depth, members_depth, pairs_depth}
 use Rattle.clone_values.proofs.cloning.+depth.Given as goal
 
 abbrev pub decreases-depth : goal.decreases-depth

@@ -1,5 +1,5 @@
 use Rattle.std.proofs.Common.{◌≡◌, [], map}
-use Rattle.clone_values.specs.Names.{set_members}
+use Rattle.value_trees.specs.Names.{set_members}
 use Rattle.clone_values.specs.View.{prop_of, named_value_of}
 use Rattle.clone_values.proofs.properties.by_name.Given as goal
 

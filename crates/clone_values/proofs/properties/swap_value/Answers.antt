@@ -3,7 +3,7 @@ use Rattle.std.proofs.lemmas.List.{map-set}
 use Rattle.std.proofs.lemmas.Option.{slice_get-map, slice_get_read}
 use Rattle.clone_values.specs.declared.value_types.Prop.{Prop}
 use Rattle.clone_values.specs.declared.value_types.Value.{Value}
-use Rattle.clone_values.specs.Names.{names_of, HasNameAt}
+use Rattle.value_trees.specs.Names.{names_of, HasNameAt}
 use Rattle.clone_values.specs.View.{prop_of, tree_of}
 use Rattle.clone_values.proofs.properties.swap_value.Goals as goal
 

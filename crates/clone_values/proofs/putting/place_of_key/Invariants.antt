@@ -1,7 +1,7 @@
 use Rattle.std.proofs.Common.{◌≡◌, drop}
 use Rattle.std.specs.List.{position_from}
 use Rattle.clone_values.specs.View.{tree_of}
-use Rattle.clone_values.specs.Sameness.{repeats}
+use Rattle.value_trees.specs.Sameness.{repeats}
 use Rattle.clone_values.proofs.putting.place_of_key.Given as goal
 
 -- the keys so far are others

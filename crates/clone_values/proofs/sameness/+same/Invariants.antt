@@ -1,7 +1,7 @@
 use Rattle.std.proofs.Common.{◌≡◌, drop}
-use Rattle.clone_values.specs.Tree.{tree_size, trees_size, members_size, pairs_size, trees_of, members_of, pairs_of}
+use Rattle.value_trees.specs.Tree.{tree_size, trees_size, members_size, pairs_size, trees_of, members_of, pairs_of}
 use Rattle.clone_values.specs.View.{tree_of}
-use Rattle.clone_values.specs.Sameness.{same_trees, same_members, same_pairs}
+use Rattle.value_trees.specs.Sameness.{same_trees, same_members, same_pairs}
 use Rattle.clone_values.proofs.sameness.+same.Given as goal
 
 abbrev pub decreases-is_same : goal.decreases-is_same

@@ -1,4 +1,4 @@
-use Rattle.clone_values.proofs.SamenessLaws.{same_tree_decides}
+use Rattle.value_trees.proofs.Laws.{same_tree_decides}
 use Rattle.clone_values.proofs.sameness.same_value.Goals as goal
 
 pub returns : goal.returns

@@ -4,7 +4,7 @@ use Rattle.connection_queues.specs.States.{state_of, lose_boxes}
 use Rattle.name_queues.specs.Mails.{conn_of, taken_mail, lost_change, lost_changes, with_taken, events_of, taken_of}
 use Rattle.name_queues.proofs.Laws.{IsPlace, IsNowhere, place_of, place_in, nowhere, nowhere_in}
 use Rattle.connection_queues.specs.Machine.{taken, taken_event, names_after_event}
-use Rattle.connection_queues.proofs.StepLemmas.{taken_some, taken_none, state_mails, room_client, taken_client, after_event_room}
+use Rattle.connection_queues.proofs.StepLemmas.{taken_some, state_mails, room_client, taken_client, after_event_room}
 use Rattle.connection_queues.proofs.calls.take.Goals as goal
 
 pub returns-in-Some-clause-taken : goal.returns-in-Some-clause-taken

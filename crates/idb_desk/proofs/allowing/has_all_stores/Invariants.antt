@@ -1,5 +1,5 @@
 use Rattle.std.proofs.Common.{◌≡◌, drop, Some}
-use Rattle.idb_desk.specs.Refusals.{has_stores}
+use Rattle.desk_steps.specs.Refusals.{has_stores}
 use Rattle.idb_desk.proofs.allowing.has_all_stores.Given as goal
 
 abbrev pub invariant-loop-i : goal.invariant-loop-i

@@ -1,9 +1,9 @@
 use Rattle.std.proofs.Common.{List, ap, sym, ◌∙◌}
 use Rattle.name_queues.specs.declared.ids.ConnId.{ConnId}
 use Rattle.connection_queues.specs.Machine.{unhandled}
-use Rattle.idb_desk.specs.Desks.{ClientStand}
-use Rattle.idb_desk.specs.Refusals.{has_some}
-use Rattle.idb_desk.proofs.Standing.{client_there_in, client_nowhere_in}
+use Rattle.desk_steps.specs.Desks.{ClientStand}
+use Rattle.desk_steps.specs.Refusals.{has_some}
+use Rattle.desk_steps.proofs.Laws.{client_there_in, client_nowhere_in}
 use Rattle.idb_desk.proofs.allowing.has_change.Goals as goal
 
 pub returns-in-Some : goal.returns-in-Some

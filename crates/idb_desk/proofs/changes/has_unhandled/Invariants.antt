@@ -1,6 +1,6 @@
 use Rattle.std.proofs.Common.{◌≡◌, drop}
 use Rattle.connection_queues.specs.Machine.{unhandled}
-use Rattle.idb_desk.specs.Refusals.{has_some}
+use Rattle.desk_steps.specs.Refusals.{has_some}
 use Rattle.idb_desk.proofs.changes.has_unhandled.Given as goal
 
 abbrev pub invariant-loop-place : goal.invariant-loop-place

@@ -1,9 +1,9 @@
 use Rattle.std.proofs.Common.{◌∙◌, sym}
 use Rattle.std.proofs.lemmas.Result.{on_ok_weaker}
 use Rattle.name_queues.proofs.Laws.{IsPlace, IsNowhere, place_in, nowhere_in}
-use Rattle.idb_desk.specs.Desks.{is_client}
-use Rattle.idb_desk.specs.Steps.{asked_more}
-use Rattle.idb_desk.proofs.Standing.{asked_there, asked_first}
+use Rattle.desk_steps.specs.Desks.{is_client}
+use Rattle.desk_steps.specs.Steps.{asked_more}
+use Rattle.desk_steps.proofs.Laws.{asked_there, asked_first}
 use Rattle.idb_desk.proofs.clients.ask.Goals as goal
 
 pub returns-in-Some-clause-asked : goal.returns-in-Some-clause-asked

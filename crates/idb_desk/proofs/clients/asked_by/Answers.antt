@@ -1,6 +1,6 @@
 use Rattle.std.proofs.Common.{◌∙◌, length, ap, sym}
-use Rattle.idb_desk.specs.Desks.{ClientStand}
-use Rattle.idb_desk.proofs.Standing.{client_there, client_nowhere}
+use Rattle.desk_steps.specs.Desks.{ClientStand}
+use Rattle.desk_steps.proofs.Laws.{client_there, client_nowhere}
 use Rattle.idb_desk.proofs.clients.asked_by.Goals as goal
 
 pub returns-in-Some : goal.returns-in-Some

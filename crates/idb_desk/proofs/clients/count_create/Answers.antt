@@ -1,7 +1,7 @@
 use Rattle.std.proofs.Common.{◌≡◌, ◌<◌, ap, sym, subst}
 use Rattle.name_queues.proofs.Laws.{IsPlace, place_in, nowhere_in}
-use Rattle.idb_desk.specs.Desks.{ClientStand, is_client, client_in, or_new_client}
-use Rattle.idb_desk.specs.Steps.{created_more}
+use Rattle.desk_steps.specs.Desks.{ClientStand, is_client, client_in, or_new_client}
+use Rattle.desk_steps.specs.Steps.{created_more}
 use Rattle.idb_desk.proofs.clients.count_create.Goals as goal
 
 pub create-requires : goal.create-requires

@@ -1,9 +1,9 @@
 use Rattle.std.proofs.Common.{◌≡◌, ◌∙◌, List, get_or, drop, slice_get, slice_set, ap, sym}
 use Rattle.name_queues.proofs.Laws.{IsPlace, place_in, nowhere_in}
 use Rattle.connection_queues.specs.Machine.{unhandled}
-use Rattle.idb_desk.specs.Desks.{ClientStand, is_client, client_in, or_new_client}
-use Rattle.idb_desk.specs.Steps.{changes_left}
-use Rattle.idb_desk.proofs.Standing.{client_there_in, client_nowhere_in}
+use Rattle.desk_steps.specs.Desks.{ClientStand, is_client, client_in, or_new_client}
+use Rattle.desk_steps.specs.Steps.{changes_left}
+use Rattle.desk_steps.proofs.Laws.{client_there_in, client_nowhere_in}
 use Rattle.idb_desk.proofs.clients.handle_change.Goals as goal
 
 pub returns-in-Some-clause-first : goal.returns-in-Some-clause-first

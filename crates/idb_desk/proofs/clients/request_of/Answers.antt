@@ -1,6 +1,6 @@
 use Rattle.std.proofs.Common.{◌∙◌, ap, sym}
-use Rattle.idb_desk.specs.Desks.{ClientStand, request_in}
-use Rattle.idb_desk.proofs.Standing.{client_there, client_nowhere, none_in}
+use Rattle.desk_steps.specs.Desks.{ClientStand, request_in}
+use Rattle.desk_steps.proofs.Laws.{client_there, client_nowhere, none_in}
 use Rattle.idb_desk.proofs.clients.request_of.Goals as goal
 
 pub returns-in-Some : goal.returns-in-Some

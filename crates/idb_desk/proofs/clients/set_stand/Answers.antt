@@ -1,6 +1,6 @@
 use Rattle.std.proofs.Common.{sym}
 use Rattle.name_queues.proofs.Laws.{IsPlace, place_in, nowhere_in}
-use Rattle.idb_desk.specs.Desks.{is_client, with_stand}
+use Rattle.desk_steps.specs.Desks.{is_client, with_stand}
 use Rattle.idb_desk.proofs.clients.set_stand.Goals as goal
 
 pub returns-in-Some : goal.returns-in-Some

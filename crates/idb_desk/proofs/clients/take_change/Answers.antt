@@ -1,8 +1,8 @@
 use Rattle.std.proofs.Common.{sym}
 use Rattle.name_queues.proofs.Laws.{IsPlace, place_in, nowhere_in}
 use Rattle.std.proofs.lemmas.Result.{on_ok_weaker}
-use Rattle.idb_desk.specs.Desks.{is_client}
-use Rattle.idb_desk.specs.Steps.{change_taken}
+use Rattle.desk_steps.specs.Desks.{is_client}
+use Rattle.desk_steps.specs.Steps.{change_taken}
 use Rattle.idb_desk.proofs.clients.take_change.Goals as goal
 
 pub returns-in-Some-clause-taken : goal.returns-in-Some-clause-taken

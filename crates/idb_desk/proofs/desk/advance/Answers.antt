@@ -1,6 +1,6 @@
 use Rattle.std.proofs.Common.{◌∙◌, sym}
 use Rattle.idb_desk.specs.Parts.{desk_state_of}
-use Rattle.idb_desk.proofs.Owing.{wide_owes, within_owes, one_owed}
+use Rattle.desk_steps.proofs.Laws.{wide_owes, within_owes, one_owed}
 use Rattle.idb_desk.proofs.desk.advance.Goals as goal
 
 pub advance_within-requires-clause-owes : goal.advance_within-requires-clause-owes

@@ -1,7 +1,7 @@
 use Rattle.std.proofs.Common.{ap, ◌∙◌}
-use Rattle.idb_desk.specs.Numbers.{with_place, place_of_name, scope_items}
+use Rattle.desk_steps.specs.Numbers.{with_place, place_of_name, scope_items}
 use Rattle.idb_desk.specs.Parts.{board_of}
-use Rattle.idb_desk.specs.declared.stands.TxKind.TheVariants as kind
+use Rattle.desk_steps.specs.declared.stands.TxKind.TheVariants as kind
 use Rattle.idb_desk.proofs.Draws.{drawn_there, counted_there}
 use Rattle.idb_desk.proofs.drawing.draw_plain.Goals as goal
 

@@ -1,7 +1,7 @@
 use Rattle.std.proofs.Common.{ap, ◌∙◌}
 use Rattle.std.proofs.lemmas.Result.{on_ok_weaker}
 use Rattle.idb_keys.specs.declared.names.Mode.TheVariants.{VersionChange}
-use Rattle.idb_desk.specs.Numbers.{with_place, place_of_name, whole_database}
+use Rattle.desk_steps.specs.Numbers.{with_place, place_of_name, whole_database}
 use Rattle.idb_desk.specs.Parts.{board_of}
 use Rattle.idb_desk.proofs.Draws.{drawn_there}
 use Rattle.idb_desk.proofs.drawing.draw_whole.Goals as goal

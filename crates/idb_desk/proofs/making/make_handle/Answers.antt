@@ -1,7 +1,7 @@
 use Rattle.connection_queues.specs.Machine.{unhandled}
-use Rattle.idb_desk.specs.Desks.{changes_in}
+use Rattle.desk_steps.specs.Desks.{changes_in}
 use Rattle.idb_desk.specs.Parts.{desk_state_of}
-use Rattle.idb_desk.proofs.Standing.{handled_there}
+use Rattle.desk_steps.proofs.Laws.{handled_there}
 use Rattle.idb_desk.proofs.making.make_handle.Goals as goal
 
 pub returns-in-Some : goal.returns-in-Some

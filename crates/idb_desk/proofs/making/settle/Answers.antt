@@ -1,7 +1,7 @@
 use Rattle.std.proofs.Common.{◌<◌, ◌∙◌, ap, sym, subst}
 use Rattle.connection_queues.specs.Machine.{QueueState}
-use Rattle.idb_desk.specs.Queueing.{settled_at}
-use Rattle.idb_desk.proofs.Settles.{rank_at, rank_less, turn_settles, settled_there}
+use Rattle.desk_steps.specs.Queueing.{settled_at}
+use Rattle.desk_steps.proofs.Laws.{rank_at, rank_less, turn_settles, settled_there}
 use Rattle.idb_desk.proofs.making.settle.Goals as goal
 
 pub loop-smaller : goal.loop-smaller

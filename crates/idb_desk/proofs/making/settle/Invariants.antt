@@ -1,6 +1,6 @@
 use Rattle.std.proofs.Common.{◌≡◌}
-use Rattle.idb_desk.specs.Queueing.{settled_at}
-use Rattle.idb_desk.proofs.Settles.{rank_at}
+use Rattle.desk_steps.specs.Queueing.{settled_at}
+use Rattle.desk_steps.proofs.Laws.{rank_at}
 use Rattle.idb_desk.proofs.making.settle.Given as goal
 
 abbrev pub invariant-loop : goal.invariant-loop

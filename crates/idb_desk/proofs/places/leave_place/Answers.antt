@@ -1,7 +1,7 @@
 use Rattle.std.proofs.Common.{sym}
 use Rattle.name_queues.proofs.Laws.{IsPlace, place_in, nowhere_in}
-use Rattle.idb_desk.specs.Numbers.{is_placed_name}
-use Rattle.idb_desk.specs.Steps.{place_left}
+use Rattle.desk_steps.specs.Numbers.{is_placed_name}
+use Rattle.desk_steps.specs.Steps.{place_left}
 use Rattle.idb_desk.proofs.places.leave_place.Goals as goal
 
 pub returns-in-Some : goal.returns-in-Some

@@ -1,5 +1,5 @@
 use Rattle.std.proofs.Common.{ℕ, List, ◌++◌, ◌+◌, ◌-◌, ap, ◌∙◌}
-use Rattle.idb_desk.specs.Numbers.{numbers_from}
+use Rattle.desk_steps.specs.Numbers.{numbers_from}
 use Rattle.idb_desk.proofs.Counting.{numbers_next}
 use Rattle.idb_desk.proofs.places.numbers_from.Goals as goal
 

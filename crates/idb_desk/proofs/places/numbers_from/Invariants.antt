@@ -1,5 +1,5 @@
 use Rattle.std.proofs.Common.{◌≡◌, ◌++◌, ◌+◌, ◌-◌}
-use Rattle.idb_desk.specs.Numbers.{numbers_from}
+use Rattle.desk_steps.specs.Numbers.{numbers_from}
 use Rattle.idb_desk.proofs.places.numbers_from.Given as goal
 
 abbrev pub invariant-loop-k : goal.invariant-loop-k

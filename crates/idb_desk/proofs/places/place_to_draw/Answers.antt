@@ -1,7 +1,7 @@
 use Rattle.std.proofs.Common.{ℕ, List, length, ap, ◌∙◌}
-use Rattle.idb_desk.specs.Numbers.{new_place, one_more_unfinished}
-use Rattle.idb_desk.specs.Placing.{placed_at}
-use Rattle.idb_desk.proofs.Placed.{Puts, puts_again, puts_free, puts_behind}
+use Rattle.desk_steps.specs.Numbers.{new_place, one_more_unfinished}
+use Rattle.desk_steps.specs.Placing.{placed_at}
+use Rattle.desk_steps.proofs.Laws.{Puts, puts_again, puts_free, puts_behind}
 use Rattle.idb_desk.proofs.places.place_to_draw.Goals as goal
 
 pub returns-in-Some-clause-placed : goal.returns-in-Some-clause-placed

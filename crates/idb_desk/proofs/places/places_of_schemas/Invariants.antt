@@ -1,5 +1,5 @@
 use Rattle.std.proofs.Common.{◌≡◌, ◌++◌, drop}
-use Rattle.idb_desk.specs.Numbers.{places_of_schemas}
+use Rattle.desk_steps.specs.Numbers.{places_of_schemas}
 use Rattle.idb_desk.proofs.places.places_of_schemas.Given as goal
 
 abbrev pub invariant-loop-schema : goal.invariant-loop-schema

@@ -1,5 +1,5 @@
 use Rattle.std.proofs.Common.{◌≡◌, ◌++◌, drop}
-use Rattle.idb_desk.specs.Numbers.{scope_items}
+use Rattle.desk_steps.specs.Numbers.{scope_items}
 use Rattle.idb_desk.proofs.places.scope_items.Given as goal
 
 abbrev pub invariant-loop-i : goal.invariant-loop-i

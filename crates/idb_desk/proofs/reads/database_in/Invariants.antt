@@ -1,5 +1,5 @@
 use Rattle.std.proofs.Common.{◌≡◌, drop}
-use Rattle.idb_desk.specs.Databases.{database_in}
+use Rattle.desk_steps.specs.Databases.{database_in}
 use Rattle.idb_desk.proofs.reads.database_in.Given as goal
 
 abbrev pub invariant-loop-n : goal.invariant-loop-n

@@ -1,5 +1,5 @@
 use Rattle.std.proofs.Common.{◌≡◌, ◌++◌, drop, map, false}
-use Rattle.idb_desk.specs.Waiting.{pending_on}
+use Rattle.desk_steps.specs.Waiting.{pending_on}
 use Rattle.idb_desk.proofs.waiting.push_behind.Given as goal
 
 abbrev pub invariant-loop-place : goal.invariant-loop-place

@@ -1,6 +1,6 @@
 use Rattle.std.proofs.Common.{◌≡◌, ◌++◌, drop}
 use Rattle.std.specs.List.{flat_map}
-use Rattle.idb_desk.specs.Waiting.{pending_of_name}
+use Rattle.desk_steps.specs.Waiting.{pending_of_name}
 use Rattle.idb_desk.proofs.waiting.push_names.Given as goal
 
 abbrev pub invariant-loop-n : goal.invariant-loop-n

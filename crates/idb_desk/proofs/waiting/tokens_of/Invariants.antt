@@ -1,5 +1,5 @@
 use Rattle.std.proofs.Common.{◌≡◌, ◌++◌, drop, map}
-use Rattle.idb_desk.specs.Tokens.{token_of}
+use Rattle.desk_steps.specs.Tokens.{token_of}
 use Rattle.idb_desk.proofs.waiting.tokens_of.Given as goal
 
 abbrev pub invariant-loop-step : goal.invariant-loop-step

@@ -1,6 +1,6 @@
 use Rattle.std.proofs.Common.{◌≡◌, take}
 use Rattle.index_tables.specs.RecordRows.{index_rows}
-use Rattle.indexed_records.specs.View.{records_of}
+use Rattle.store_contents.specs.View.{records_of}
 use Rattle.indexed_records.proofs.building.add_all.Given as goal
 
 -- the rows of the records so far

@@ -1,5 +1,5 @@
 use Rattle.std.proofs.Common.{◌∙◌, arith}
-use Rattle.indexed_records.proofs.Matching.{filled_in_step, filled_count, pushed_in_step}
+use Rattle.store_contents.proofs.Laws.{filled_in_step, filled_count, pushed_in_step}
 use Rattle.indexed_records.proofs.building.add_last.Goals as goal
 
 pub returns-in_err-push_both-clause-step : goal.returns-in_err-push_both-clause-step

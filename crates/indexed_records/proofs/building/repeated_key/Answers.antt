@@ -1,7 +1,7 @@
 use Rattle.std.proofs.Common.{◌≤◌, length, arith, ◌∙◌}
 use Rattle.clone_values.specs.View.{key_tree_of}
 use Rattle.index_tables.specs.Rows.{rows_of}
-use Rattle.indexed_records.proofs.Members.{row_count}
+use Rattle.store_contents.proofs.Laws.{row_count}
 use Rattle.indexed_records.proofs.NewIndex.{repeated_here, repeated_later, repeated_past}
 use Rattle.indexed_records.proofs.building.repeated_key.Goals as goal
 

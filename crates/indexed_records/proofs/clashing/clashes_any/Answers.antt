@@ -1,7 +1,7 @@
 use Rattle.std.proofs.Common.{◌∙◌, sym, ap, arith, ◌+◌, drop, ◌≤◌, length}
 use Rattle.std.specs.Prelude.{◌||◌}
 use Rattle.clone_values.specs.View.{key_tree_of}
-use Rattle.indexed_records.specs.Clashes.{clash_any}
+use Rattle.store_contents.specs.Clashes.{clash_any}
 use Rattle.indexed_records.proofs.ClashLaws.{clash_drop, clash_past}
 use Rattle.indexed_records.proofs.clashing.clashes_any.Goals as goal
 

@@ -1,6 +1,6 @@
 use Rattle.std.proofs.Common.{◌≡◌, drop}
 use Rattle.clone_values.specs.View.{key_tree_of}
-use Rattle.indexed_records.specs.Clashes.{clash_in}
+use Rattle.store_contents.specs.Clashes.{clash_in}
 use Rattle.indexed_records.proofs.clashing.clashes_in.Given as goal
 
 -- the rows so far don't clash

@@ -1,6 +1,6 @@
 use Rattle.std.proofs.Common.{◌≡◌, drop}
 use Rattle.clone_values.specs.View.{tree_of}
-use Rattle.indexed_records.specs.Sameness.{gives_same_rows}
+use Rattle.store_contents.specs.Sameness.{gives_same_rows}
 use Rattle.indexed_records.proofs.comparing.gives_same_in_each.Given as goal
 
 -- the indexes so far get the same keys

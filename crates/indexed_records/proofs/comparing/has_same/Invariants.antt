@@ -1,5 +1,5 @@
 use Rattle.std.proofs.Common.{◌≡◌, drop}
-use Rattle.indexed_records.specs.Sameness.{keys_given, same_keys}
+use Rattle.store_contents.specs.Sameness.{keys_given, same_keys}
 use Rattle.indexed_records.proofs.comparing.has_same.Given as goal
 
 -- the keys so far tie

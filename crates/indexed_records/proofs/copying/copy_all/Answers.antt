@@ -1,6 +1,6 @@
 use Rattle.std.proofs.Common.{arith, ◌∙◌, ap}
 use Rattle.index_tables.proofs.Laws.{past_end}
-use Rattle.indexed_records.proofs.ByKey.{copy_is_lacked, copy_is_put}
+use Rattle.store_contents.proofs.Laws.{copy_is_lacked, copy_is_put}
 use Rattle.indexed_records.proofs.copying.copy_all.Goals as goal
 use Rattle.indexed_records.proofs.copying.copy_all.Goals.{in-Some+in_ok-key+in_ok-value, in_default}
 

@@ -1,7 +1,7 @@
 use Rattle.std.proofs.Common.{◌≡◌, ◌≤◌, refl, subst}
 use Rattle.index_tables.specs.Rows.{IndexRows}
-use Rattle.indexed_records.specs.Taken.{DroppedIndex}
-use Rattle.indexed_records.specs.Walks.{IsInserted}
+use Rattle.store_contents.specs.Taken.{DroppedIndex}
+use Rattle.store_contents.specs.Walks.{IsInserted}
 use Rattle.indexed_records.proofs.dropping.insert_both.Goals as goal
 
 pub returns-clause-tables : goal.returns-clause-tables

@@ -1,5 +1,5 @@
 use Rattle.std.proofs.Common.{subst}
-use Rattle.indexed_records.specs.Walks.{IsFilled}
+use Rattle.store_contents.specs.Walks.{IsFilled}
 use Rattle.indexed_records.proofs.dropping.inserted.Goals as goal
 
 pub returns : goal.returns

@@ -1,6 +1,6 @@
 use Rattle.std.proofs.Common.{◌≤◌, ◌∙◌, sym, ap, subst, arith}
 use Rattle.index_tables.specs.Rows.{IndexRows}
-use Rattle.indexed_records.proofs.Matching.{filled_in_step, filled_count, unplaced_in_step, taken_room, taken_rows}
+use Rattle.store_contents.proofs.Laws.{filled_in_step, filled_count, unplaced_in_step, taken_room, taken_rows}
 use Rattle.indexed_records.proofs.dropping.taken_at.Goals as goal
 
 pub returns-in_err-infos-clause-step : goal.returns-in_err-infos-clause-step

@@ -1,7 +1,7 @@
 use Rattle.std.proofs.Common.{arith, [], ◌∷◌, ◌++◌, ◌∙◌}
 use Rattle.clone_values.specs.View.{key_tree_of, tree_of}
 use Rattle.index_tables.specs.RecordRows.{rows_of_record}
-use Rattle.indexed_records.proofs.Lists.{mapped_more}
+use Rattle.store_contents.proofs.Laws.{mapped_more}
 use Rattle.indexed_records.proofs.extracting.lists_in_each.Goals as goal
 use Rattle.indexed_records.proofs.extracting.lists_in_each.Goals.{in-Some+in_ok-rows_in_one+in_ok-push, in_default}
 

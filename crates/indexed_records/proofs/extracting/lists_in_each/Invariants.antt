@@ -1,6 +1,6 @@
 use Rattle.std.proofs.Common.{◌≡◌, take}
 use Rattle.clone_values.specs.View.{key_tree_of, tree_of}
-use Rattle.indexed_records.specs.Contents.{rows_in_indexes}
+use Rattle.store_contents.specs.Contents.{rows_in_indexes}
 use Rattle.indexed_records.proofs.extracting.lists_in_each.Given as goal
 
 -- the rows in the indexes so far

@@ -1,6 +1,6 @@
 use Rattle.std.proofs.Common.{arith}
 use Rattle.clone_values.specs.View.{key_tree_of}
-use Rattle.indexed_records.proofs.Lists.{rows_more}
+use Rattle.store_contents.proofs.Laws.{rows_more}
 use Rattle.indexed_records.proofs.extracting.rows_of_keys.Goals as goal
 use Rattle.indexed_records.proofs.extracting.rows_of_keys.Goals.{in-Some+in_ok-copied_row+in_ok-push, in_default}
 

@@ -1,6 +1,6 @@
 use Rattle.std.proofs.Common.{[], ◌∷◌, refl, arith}
-use Rattle.indexed_records.specs.Walks.{Adds, CanAdd}
-use Rattle.indexed_records.proofs.Walks.{one_changed, all_counted}
+use Rattle.store_contents.specs.Walks.{Adds, CanAdd}
+use Rattle.store_contents.proofs.Laws.{one_changed, all_counted}
 use Rattle.indexed_records.proofs.growing.add_first.Goals as goal
 
 pub returns-then-tables-gt0 : goal.returns-then-tables-gt0

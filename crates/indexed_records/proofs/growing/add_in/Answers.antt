@@ -1,7 +1,7 @@
 use Rattle.std.proofs.Common.{◌<◌, length, refl, ◌∙◌, sym, arith}
 use Rattle.std.proofs.lemmas.Option.{slice_get-get_or}
-use Rattle.indexed_records.specs.Walks.{Adds, CanAdd}
-use Rattle.indexed_records.proofs.Walks.{walked_get, walked_on, walked_all, all_at, all_counted, next_at, next_left, none_next}
+use Rattle.store_contents.specs.Walks.{Adds, CanAdd}
+use Rattle.store_contents.proofs.Laws.{walked_get, walked_on, walked_all, all_at, all_counted, next_at, next_left, none_next}
 use Rattle.indexed_records.proofs.growing.add_in.Goals as goal
 use Rattle.indexed_records.proofs.growing.add_in.Goals.{in-Some, in_default}
 

@@ -1,6 +1,6 @@
 use Rattle.std.proofs.Common.{◌≡◌, drop}
-use Rattle.indexed_records.specs.Walks.{Adds}
-use Rattle.indexed_records.proofs.Walks.{Walked}
+use Rattle.store_contents.specs.Walks.{Adds}
+use Rattle.store_contents.proofs.Laws.{Walked}
 use Rattle.indexed_records.proofs.growing.add_in.Given as goal
 
 abbrev pub invariant-loop-table : goal.invariant-loop-table

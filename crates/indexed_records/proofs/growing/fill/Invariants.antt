@@ -1,6 +1,6 @@
 use Rattle.std.proofs.Common.{◌-◌, ◌≤◌, length}
 use Rattle.std.specs.Vec.{vec_capacity}
-use Rattle.indexed_records.proofs.Walks.{FilledOn}
+use Rattle.store_contents.proofs.Laws.{FilledOn}
 use Rattle.indexed_records.proofs.growing.fill.Given as goal
 
 -- tables without rows came at the end, at most as many as are missing

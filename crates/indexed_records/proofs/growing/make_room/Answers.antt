@@ -1,5 +1,5 @@
 use Rattle.std.proofs.Common.{arith}
-use Rattle.indexed_records.proofs.Matching.{kept_in_step, roomy_in_step, filled_in_step, filled_count}
+use Rattle.store_contents.proofs.Laws.{kept_in_step, roomy_in_step, filled_in_step, filled_count}
 use Rattle.indexed_records.proofs.growing.make_room.Goals as goal
 
 pub returns-in_err-reserve_each-clause-kept : goal.returns-in_err-reserve_each-clause-kept

@@ -1,7 +1,7 @@
 use Rattle.std.proofs.Common.{◌<◌, length, sym, arith}
 use Rattle.index_tables.proofs.Laws.{past_end}
-use Rattle.indexed_records.specs.Walks.{Removes}
-use Rattle.indexed_records.proofs.Walks.{walked_on, walked_all}
+use Rattle.store_contents.specs.Walks.{Removes}
+use Rattle.store_contents.proofs.Laws.{walked_on, walked_all}
 use Rattle.indexed_records.proofs.growing.remove_in.Goals as goal
 use Rattle.indexed_records.proofs.growing.remove_in.Goals.{in-Some, in_default}
 

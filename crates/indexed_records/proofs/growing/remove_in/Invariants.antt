@@ -1,5 +1,5 @@
-use Rattle.indexed_records.specs.Walks.{Removes}
-use Rattle.indexed_records.proofs.Walks.{Walked}
+use Rattle.store_contents.specs.Walks.{Removes}
+use Rattle.store_contents.proofs.Laws.{Walked}
 use Rattle.indexed_records.proofs.growing.remove_in.Given as goal
 
 abbrev pub invariant-loop-place : goal.invariant-loop-place

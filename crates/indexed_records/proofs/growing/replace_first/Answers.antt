@@ -1,6 +1,6 @@
 use Rattle.std.proofs.Common.{[], ◌∷◌, refl, sym, arith}
-use Rattle.indexed_records.specs.Walks.{Replaces, CanAdd, paired}
-use Rattle.indexed_records.proofs.Walks.{one_changed, all_counted, paired_get}
+use Rattle.store_contents.specs.Walks.{Replaces, CanAdd, paired}
+use Rattle.store_contents.proofs.Laws.{one_changed, all_counted, paired_get}
 use Rattle.indexed_records.proofs.growing.replace_first.Goals as goal
 
 pub returns-in-Some : goal.returns-in-Some

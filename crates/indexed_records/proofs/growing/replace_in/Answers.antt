@@ -1,8 +1,8 @@
 use Rattle.std.proofs.Common.{◌<◌, length, refl, ◌∙◌, sym, arith}
 use Rattle.std.proofs.lemmas.Option.{slice_get-get_or}
 use Rattle.index_tables.proofs.Laws.{past_end}
-use Rattle.indexed_records.specs.Walks.{Replaces, CanAdd}
-use Rattle.indexed_records.proofs.Walks.{walked_get, walked_on, walked_all, all_at, all_counted, next_at, next_left, none_next, paired_get}
+use Rattle.store_contents.specs.Walks.{Replaces, CanAdd}
+use Rattle.store_contents.proofs.Laws.{walked_get, walked_on, walked_all, all_at, all_counted, next_at, next_left, none_next, paired_get}
 use Rattle.indexed_records.proofs.growing.replace_in.Goals as goal
 use Rattle.indexed_records.proofs.growing.replace_in.Goals.{in-Some+in-Some-next, in-Some+in_default-next, in_default}
 

@@ -1,7 +1,7 @@
 use Rattle.std.proofs.lemmas.Option.{slice_get-get_or}
 use Rattle.std.proofs.Common.{◌<◌, length, refl, ◌∙◌, sym, arith}
-use Rattle.indexed_records.specs.Walks.{Keeps, HasRoomFor}
-use Rattle.indexed_records.proofs.Walks.{walked_get, walked_on, walked_all, walked_kept}
+use Rattle.store_contents.specs.Walks.{Keeps, HasRoomFor}
+use Rattle.store_contents.proofs.Laws.{walked_get, walked_on, walked_all, walked_kept}
 use Rattle.indexed_records.proofs.growing.reserve_in.Goals as goal
 
 pub loop-table-preserved : goal.loop-table-preserved

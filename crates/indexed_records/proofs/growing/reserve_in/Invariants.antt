@@ -1,5 +1,5 @@
-use Rattle.indexed_records.specs.Walks.{Keeps, HasRoomFor}
-use Rattle.indexed_records.proofs.Walks.{Walked}
+use Rattle.store_contents.specs.Walks.{Keeps, HasRoomFor}
+use Rattle.store_contents.proofs.Laws.{Walked}
 use Rattle.indexed_records.proofs.growing.reserve_in.Given as goal
 
 abbrev pub invariant-loop-table : goal.invariant-loop-table

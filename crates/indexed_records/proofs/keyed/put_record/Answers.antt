@@ -1,6 +1,6 @@
 use Rattle.std.proofs.Common.{◌∙◌, ap}
-use Rattle.indexed_records.specs.View.{records_of}
-use Rattle.indexed_records.proofs.ByKey.{gap_in, of_put}
+use Rattle.store_contents.specs.View.{records_of}
+use Rattle.store_contents.proofs.Laws.{gap_in, of_put}
 use Rattle.indexed_records.proofs.keyed.put_record.Goals as goal
 
 pub insert_at-requires-clause-belongs : goal.insert_at-requires-clause-belongs

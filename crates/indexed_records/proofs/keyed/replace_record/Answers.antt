@@ -1,8 +1,8 @@
 use Rattle.std.proofs.Common.{◌∙◌, ap, arith}
 use Rattle.std.specs.FinMap as finite
 use Rattle.clone_values.specs.View.{tree_of}
-use Rattle.indexed_records.specs.View.{records_of}
-use Rattle.indexed_records.proofs.ByKey.{count_of, entry_at, of_value, value_at_place}
+use Rattle.store_contents.specs.View.{records_of}
+use Rattle.store_contents.proofs.Laws.{count_of, entry_at, of_value, value_at_place}
 use Rattle.indexed_records.proofs.keyed.replace_record.Goals as goal
 
 pub replace-requires : goal.replace-requires

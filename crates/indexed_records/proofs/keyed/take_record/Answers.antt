@@ -1,6 +1,6 @@
 use Rattle.std.proofs.Common.{arith, ◌∙◌, ap}
-use Rattle.indexed_records.specs.View.{records_of}
-use Rattle.indexed_records.proofs.ByKey.{count_of, stands_of, of_removed}
+use Rattle.store_contents.specs.View.{records_of}
+use Rattle.store_contents.proofs.Laws.{count_of, stands_of, of_removed}
 use Rattle.indexed_records.proofs.keyed.take_record.Goals as goal
 
 pub remove-requires : goal.remove-requires

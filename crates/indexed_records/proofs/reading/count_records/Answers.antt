@@ -1,5 +1,5 @@
 use Rattle.std.proofs.Common.{◌∙◌, sym}
-use Rattle.indexed_records.proofs.ByKey.{count_of}
+use Rattle.store_contents.proofs.Laws.{count_of}
 use Rattle.indexed_records.proofs.reading.count_records.Goals as goal
 
 pub returns : goal.returns

@@ -1,6 +1,6 @@
 use Rattle.std.proofs.Common.{[], ◌∙◌, sym, arith}
 use Rattle.std.proofs.lemmas.Option.{slice_get_within}
-use Rattle.indexed_records.proofs.Members.{first_of_all, first_of_none, first_open, first_closed, first_between}
+use Rattle.store_contents.proofs.Laws.{first_of_all, first_of_none, first_open, first_closed, first_between}
 use Rattle.indexed_records.proofs.reading.first_record.Goals as goal
 
 pub overflow_add-result : goal.overflow_add-result

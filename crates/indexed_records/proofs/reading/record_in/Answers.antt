@@ -1,5 +1,5 @@
 use Rattle.clone_values.specs.View.{tree_of}
-use Rattle.indexed_records.proofs.ByKey.{stands, gap_of}
+use Rattle.store_contents.proofs.Laws.{stands, gap_of}
 use Rattle.indexed_records.proofs.reading.record_in.Goals as goal
 
 pub returns-in-Ok-clause-found : goal.returns-in-Ok-clause-found

@@ -1,7 +1,7 @@
 use Rattle.std.proofs.Common.{◌∙◌, sym, ap}
 use Rattle.std.specs.Prelude.{option_map}
-use Rattle.indexed_records.specs.View.{record_of}
-use Rattle.indexed_records.proofs.ByKey.{seen_again, entry_of}
+use Rattle.store_contents.specs.View.{record_of}
+use Rattle.store_contents.proofs.Laws.{seen_again, entry_of}
 use Rattle.indexed_records.proofs.reading.record_nth.Goals as goal
 
 pub returns : goal.returns

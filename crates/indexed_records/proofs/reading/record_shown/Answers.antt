@@ -3,7 +3,7 @@ use Rattle.std.specs.Prelude.{option_map}
 use Rattle.clone_values.specs.declared.key_types.Key.{Key}
 use Rattle.clone_values.specs.declared.value_types.Value.{Value}
 use Rattle.clone_values.specs.View.{key_tree_of}
-use Rattle.indexed_records.proofs.Members.{shown_get}
+use Rattle.store_contents.proofs.Laws.{shown_get}
 use Rattle.indexed_records.proofs.reading.record_shown.Goals as goal
 
 pub returns-in-Some : goal.returns-in-Some

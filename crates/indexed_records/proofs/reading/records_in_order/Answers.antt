@@ -1,5 +1,5 @@
 use Rattle.std.proofs.Common.{[], sym}
-use Rattle.indexed_records.proofs.Members.{shown_keys}
+use Rattle.store_contents.proofs.Laws.{shown_keys}
 use Rattle.indexed_records.proofs.reading.records_in_order.Goals as goal
 
 pub returns : goal.returns

@@ -1,5 +1,5 @@
 use Rattle.std.proofs.Common.{[], ◌∙◌}
-use Rattle.indexed_records.proofs.Members.{shown_length}
+use Rattle.store_contents.proofs.Laws.{shown_length}
 use Rattle.indexed_records.proofs.reading.records_shown.Goals as goal
 
 pub returns : goal.returns

@@ -1,6 +1,6 @@
 use Rattle.std.proofs.Common.{◌∙◌, sym, ap}
 use Rattle.std.specs.Prelude.{slice_get}
-use Rattle.indexed_records.proofs.Members.{shown_table, shown_none}
+use Rattle.store_contents.proofs.Laws.{shown_table, shown_none}
 use Rattle.indexed_records.proofs.reading.shown_at.Goals as goal
 
 pub returns-in-Store : goal.returns-in-Store

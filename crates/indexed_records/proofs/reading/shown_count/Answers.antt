@@ -1,5 +1,5 @@
 use Rattle.std.proofs.Common.{◌∙◌, sym, ap, length}
-use Rattle.indexed_records.proofs.Members.{row_count, shown_table, shown_none}
+use Rattle.store_contents.proofs.Laws.{row_count, shown_table, shown_none}
 use Rattle.indexed_records.proofs.reading.shown_count.Goals as goal
 
 pub returns-in-Store : goal.returns-in-Store

@@ -2,9 +2,9 @@ use Rattle.std.proofs.Common.{◌∙◌, sym, subst}
 use Rattle.std.specs.Cmp.{Equal-is}
 use Rattle.clone_values.specs.View.{key_tree_of, tree_of}
 use Rattle.key_order.proofs.Laws.{key_cmp_same}
-use Rattle.indexed_records.specs.Contents.{IsRecordAt}
-use Rattle.indexed_records.specs.View.{records_of}
-use Rattle.indexed_records.proofs.ByKey.{stands_of}
+use Rattle.store_contents.specs.Contents.{IsRecordAt}
+use Rattle.store_contents.specs.View.{records_of}
+use Rattle.store_contents.proofs.Laws.{stands_of}
 use Rattle.indexed_records.proofs.reading.stands_at.Goals as goal
 
 pub returns-in-Some : goal.returns-in-Some

@@ -1,6 +1,6 @@
 use Rattle.std.proofs.Common.{◌∙◌, sym, ap, Some}
 use Rattle.clone_values.specs.View.{tree_of}
-use Rattle.indexed_records.proofs.ByKey.{stands, lacks, same_value}
+use Rattle.store_contents.proofs.Laws.{stands, lacks, same_value}
 use Rattle.indexed_records.proofs.reading.value_found.Goals as goal
 
 pub returns-in-Some : goal.returns-in-Some

@@ -1,6 +1,6 @@
 use Rattle.std.proofs.Common.{◌<◌, length, take, slice_index_or, sym, ap, ◌∙◌, subst, arith, add-one}
-use Rattle.indexed_records.specs.Contents.{rows_among}
-use Rattle.indexed_records.proofs.Lists.{rows_more_among}
+use Rattle.store_contents.specs.Contents.{rows_among}
+use Rattle.store_contents.proofs.Laws.{rows_more_among}
 use Rattle.indexed_records.proofs.row_lists.counted.Goals as goal
 
 pub loop-list-preserved : goal.loop-list-preserved

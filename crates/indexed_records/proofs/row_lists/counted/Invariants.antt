@@ -1,5 +1,5 @@
 use Rattle.std.proofs.Common.{◌≡◌, take}
-use Rattle.indexed_records.specs.Contents.{rows_among}
+use Rattle.store_contents.specs.Contents.{rows_among}
 use Rattle.indexed_records.proofs.row_lists.counted.Given as goal
 
 -- the rows so far

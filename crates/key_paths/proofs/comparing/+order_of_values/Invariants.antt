@@ -3,7 +3,7 @@ use Rattle.clone_values.specs.Tree.{tree_size, trees_size, trees_of}
 use Rattle.clone_values.specs.View.{tree_of}
 use Rattle.key_order.specs.KeyOrder.{keys_cmp}
 use Rattle.key_paths.specs.Comparing.{as_keys}
-use Rattle.key_paths.specs.Conversion.{are_convertible}
+use Rattle.key_order.specs.Conversion.{are_convertible}
 use Rattle.key_paths.proofs.comparing.+order_of_values.Given as goal
 
 abbrev pub decreases-order_of_values : goal.decreases-order_of_values

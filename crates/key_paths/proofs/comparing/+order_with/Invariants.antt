@@ -4,7 +4,7 @@ use Rattle.clone_values.specs.KeyTree.{key_trees_of, key_size, keys_size}
 use Rattle.clone_values.specs.View.{key_tree_of}
 use Rattle.key_order.specs.KeyOrder.{keys_cmp}
 use Rattle.key_paths.specs.Comparing.{as_keys}
-use Rattle.key_paths.specs.Conversion.{are_convertible}
+use Rattle.key_order.specs.Conversion.{are_convertible}
 use Rattle.key_paths.proofs.comparing.+order_with.Given as goal
 
 abbrev pub decreases-order_with : goal.decreases-order_with

@@ -1,7 +1,7 @@
 use Rattle.std.proofs.Common.{◌≡◌, drop}
 use Rattle.clone_values.specs.Tree.{tree_size, trees_size, trees_of}
 use Rattle.clone_values.specs.View.{tree_of}
-use Rattle.key_paths.specs.Conversion.{are_convertible}
+use Rattle.key_order.specs.Conversion.{are_convertible}
 use Rattle.key_paths.proofs.conversion.+convertible.Given as goal
 
 abbrev pub decreases-is_convertible : goal.decreases-is_convertible

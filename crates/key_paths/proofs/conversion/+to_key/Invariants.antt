@@ -1,7 +1,7 @@
 use Rattle.std.proofs.Common.{◌≡◌, ◌≤◌, length, drop, map}
 use Rattle.clone_values.specs.Tree.{tree_size, trees_size, trees_of}
 use Rattle.clone_values.specs.View.{tree_of, key_tree_of}
-use Rattle.key_paths.specs.Conversion.{keys_within}
+use Rattle.key_order.specs.Conversion.{keys_within}
 use Rattle.key_paths.proofs.KeysFound.{onto}
 use Rattle.key_paths.proofs.conversion.+to_key.Given as goal
 

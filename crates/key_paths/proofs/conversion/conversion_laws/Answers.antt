@@ -1,8 +1,7 @@
 use Rattle.std.specs.List.{filter_map}
-use Rattle.key_paths.specs.Conversion.{key_of}
+use Rattle.key_order.specs.Conversion.{key_of}
 use Rattle.key_paths.proofs.KeysFound.{key_again}
-use Rattle.key_paths.proofs.KeyDepths.{shallow, all_shallow, once}
-use Rattle.key_paths.proofs.KeysFormed.{key_formed, keys_formed, value_formed}
+use Rattle.key_order.proofs.Laws.{shallow, all_shallow, once, key_formed, keys_formed, value_formed}
 use Rattle.key_paths.proofs.StaysCloneable.{key_cloneable}
 use Rattle.key_paths.proofs.conversion.conversion_laws.Goals as goal
 

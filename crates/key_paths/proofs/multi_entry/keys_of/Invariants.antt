@@ -1,6 +1,6 @@
 use Rattle.std.proofs.Common.{◌≡◌, ◌≤◌, length, drop, map}
 use Rattle.clone_values.specs.View.{key_tree_of}
-use Rattle.key_paths.specs.Conversion.{keys_of}
+use Rattle.key_order.specs.Conversion.{keys_of}
 use Rattle.key_paths.specs.KeysSeen.{HasExactly}
 use Rattle.key_paths.proofs.EachOnce.{Adds}
 use Rattle.key_paths.proofs.multi_entry.keys_of.Given as goal

@@ -1,5 +1,5 @@
 use Rattle.std.proofs.Common.{sym}
-use Rattle.tx_courses.specs.Courses.{state_with}
+use Rattle.entry_runs.specs.Courses.{state_with}
 use Rattle.live_tx.proofs.FirstEntries.{first_checked, first_came}
 use Rattle.live_tx.proofs.entries.request_first.Goals as goal
 

@@ -1,7 +1,7 @@
 use Rattle.list_machine.specs.Seeing.{pulled_reacts, pulled_writes}
 use Rattle.list_machine.proofs.Laws.{Below}
 use Rattle.machine_laws.proofs.Laws.{KeyLaws}
-use Rattle.tx_courses.specs.Courses.{state_with}
+use Rattle.entry_runs.specs.Courses.{state_with}
 use Rattle.live_tx.proofs.Stands.{stands_after}
 use Rattle.live_tx.proofs.turning.turn.Goals as goal
 

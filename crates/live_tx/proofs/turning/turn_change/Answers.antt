@@ -1,6 +1,6 @@
 use Rattle.std.proofs.Common.{subst}
 use Rattle.list_machine.specs.Seeing.{pulled_reacts, pulled_writes}
-use Rattle.tx_courses.specs.Courses.{state_with}
+use Rattle.entry_runs.specs.Courses.{state_with}
 use Rattle.live_tx.specs.Turning.{FirstChanged}
 use Rattle.live_tx.proofs.Steps.{change_turn, change_stops, changed_attended, changed_fit}
 use Rattle.live_tx.proofs.turning.turn_change.Goals as goal

@@ -1,7 +1,7 @@
 use Rattle.std.proofs.Common.{sym, ◌∙◌}
 use Rattle.list_machine.specs.Seeing.{pulled_reacts, pulled_writes}
 use Rattle.handler_calls.proofs.Laws.{first_is}
-use Rattle.tx_courses.specs.Courses.{state_with}
+use Rattle.entry_runs.specs.Courses.{state_with}
 use Rattle.live_tx.specs.declared.next.Next.TheVariants as next
 use Rattle.live_tx.proofs.Steps.{kind_first, numbered, taken_attended, taken_own, taken_fit, cursor_turn, cursor_stops}
 use Rattle.live_tx.proofs.turning.turn_cursor.Goals as goal

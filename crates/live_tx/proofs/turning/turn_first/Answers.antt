@@ -1,6 +1,6 @@
 use Rattle.std.proofs.Common.{sym}
 use Rattle.list_machine.specs.Seeing.{pulled_reacts, pulled_writes}
-use Rattle.tx_courses.specs.Courses.{state_with}
+use Rattle.entry_runs.specs.Courses.{state_with}
 use Rattle.live_tx.proofs.Turns.{turn_idle, first_none}
 use Rattle.live_tx.proofs.turning.turn_first.Goals as goal
 

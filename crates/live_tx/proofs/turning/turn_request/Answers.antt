@@ -1,6 +1,6 @@
 use Rattle.std.proofs.Common.{sym, subst}
 use Rattle.list_machine.specs.Seeing.{pulled_reacts, pulled_writes}
-use Rattle.tx_courses.specs.Courses.{state_with}
+use Rattle.entry_runs.specs.Courses.{state_with}
 use Rattle.live_tx.specs.declared.next.Next.TheVariants as next
 use Rattle.live_tx.specs.Turning.{FirstCame}
 use Rattle.live_tx.proofs.Steps.{numbered, taken_attended, taken_own, taken_fit, request_turn, request_stops}

@@ -1,9 +1,8 @@
 use Rattle.std.proofs.Common.{ap, sym, ◌∙◌}
 use Rattle.item_changes.specs.Effects.{made_all, finds_all}
-use Rattle.list_machine.proofs.Laws.{goes_keeps}
+use Rattle.list_machine.proofs.Laws.{goes_keeps, Below}
 use Rattle.machine_laws.proofs.Checking.{KeyLaws}
 use Rattle.machine_laws.proofs.Keeping.{state_fresh, turn_state, run_state}
-use Rattle.list_machine.proofs.Laws.{Below}
 use Rattle.machine_laws.proofs.laws_of_states.state_laws.Goals as goal
 
 pub returns-clause-body : goal.returns-clause-body

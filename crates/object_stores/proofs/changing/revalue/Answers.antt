@@ -1,7 +1,7 @@
 use Rattle.std.proofs.Common.{sym, ◌∙◌, subst, arith}
 use Rattle.clone_values.specs.View.{key_tree_of, tree_of}
 use Rattle.range_reads.proofs.Laws.{told_same, unbroken_over}
-use Rattle.object_stores.specs.IsStore.{IsStoreContent}
+use Rattle.store_contents.specs.IsStore.{IsStoreContent}
 use Rattle.object_stores.specs.Parts.{content_in, log_in}
 use Rattle.object_stores.specs.declared.changes.Change.TheVariants as change
 use Rattle.object_stores.proofs.Logged.{sound_pushed, past_pushed, fine_now}

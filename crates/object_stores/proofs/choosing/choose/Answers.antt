@@ -1,9 +1,9 @@
 use Rattle.std.proofs.Common.{◌≡◌, ℕ, Some, sym, ap, ◌∙◌, subst}
 use Rattle.std.specs.Prelude.{option_map, IfOk, Option}
 use Rattle.clone_values.specs.View.{key_tree_of, tree_of}
-use Rattle.object_stores.specs.Storing.{Entry, entry_by, entry_for, generated}
+use Rattle.store_contents.specs.Storing.{Entry, entry_by, entry_for, generated}
 use Rattle.object_stores.specs.View.{entry_seen}
-use Rattle.object_stores.proofs.ChoiceLemmas.{given_fits, found_fits}
+use Rattle.store_contents.proofs.Laws.{given_fits, found_fits}
 use Rattle.object_stores.proofs.choosing.choose.Goals as goal
 
 pub returns-in-Some-clause-value : goal.returns-in-Some-clause-value

@@ -1,7 +1,7 @@
 use Rattle.std.proofs.Common.{false, sym, ap, ◌∙◌}
 use Rattle.clone_values.specs.View.{tree_of}
 use Rattle.key_paths.specs.View.{extract_of}
-use Rattle.object_stores.proofs.ChoiceLemmas.{found_key, found_depth}
+use Rattle.store_contents.proofs.Laws.{found_key, found_depth}
 use Rattle.object_stores.proofs.choosing.key_at.Goals as goal
 
 pub returns-in-One-clause-fits : goal.returns-in-One-clause-fits

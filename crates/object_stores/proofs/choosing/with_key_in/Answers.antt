@@ -1,7 +1,7 @@
 use Rattle.std.proofs.Common.{subst, sym, arith}
 use Rattle.clone_values.specs.View.{key_tree_of}
-use Rattle.object_stores.specs.IsStore.{IsStored}
-use Rattle.object_stores.proofs.ChoiceLemmas.{not_evaluated}
+use Rattle.store_contents.specs.IsStore.{IsStored}
+use Rattle.store_contents.proofs.Laws.{not_evaluated}
 use Rattle.object_stores.proofs.choosing.with_key_in.Goals as goal
 
 pub returns-clause-fits : goal.returns-clause-fits

@@ -1,8 +1,8 @@
 use Rattle.std.proofs.Common.{◌≡◌, length, take, sym, ap, ◌∙◌, arith}
-use Rattle.object_stores.specs.Store.{content_at}
+use Rattle.store_contents.specs.Store.{content_at}
 use Rattle.object_stores.specs.Parts.{content_in, past_in}
 use Rattle.object_stores.proofs.Logged.{past_length}
-use Rattle.object_stores.proofs.Past.{keeps_cut, content_cut}
+use Rattle.store_contents.proofs.Laws.{keeps_cut, content_cut}
 use Rattle.object_stores.proofs.deleting.delete.Goals as goal
 
 pub undo_to-requires-clause-place : goal.undo_to-requires-clause-place

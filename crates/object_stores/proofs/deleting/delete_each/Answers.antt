@@ -1,8 +1,8 @@
 use Rattle.std.proofs.Common.{◌-◌, sym, ap, ◌∙◌, subst, arith}
 use Rattle.std.specs.FinMap.{entries}
-use Rattle.object_stores.specs.Store.{Content}
+use Rattle.store_contents.specs.Store.{Content}
 use Rattle.object_stores.proofs.Deleted.{all_gone, outside_removed, last_inside, entry_there, empty_take, last_within, SameOutside}
-use Rattle.object_stores.proofs.Past.{keeps_again}
+use Rattle.store_contents.proofs.Laws.{keeps_again}
 use Rattle.object_stores.proofs.deleting.delete_each.Goals as goal
 
 pub returns-then-start-past-clause-deleted : goal.returns-then-start-past-clause-deleted

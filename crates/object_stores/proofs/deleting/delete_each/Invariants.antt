@@ -1,6 +1,6 @@
 use Rattle.std.proofs.Common.{◌≡◌}
 use Rattle.std.specs.FinMap.{len}
-use Rattle.object_stores.specs.Store.{KeepsPlaces}
+use Rattle.store_contents.specs.Store.{KeepsPlaces}
 use Rattle.object_stores.specs.Parts.{content_in, past_in, IsSound}
 use Rattle.object_stores.proofs.Deleted.{SameOutside}
 use Rattle.object_stores.proofs.deleting.delete_each.Given as goal

@@ -2,12 +2,12 @@ use Rattle.std.proofs.Common.{◌<◌, [], ◌∷◌, length, sym, ap, ◌∙◌
 use Rattle.std.proofs.lemmas.List.{length-append}
 use Rattle.idb_schema.specs.declared.definitions.StoreInfo.{StoreInfo}
 use Rattle.range_reads.specs.Contents.{info_without_last}
-use Rattle.object_stores.specs.IsStore.{IsStoreContent}
+use Rattle.store_contents.specs.IsStore.{IsStoreContent}
 use Rattle.object_stores.specs.declared.changes.Change.TheVariants as change
 use Rattle.object_stores.specs.declared.changes.Parts.{Parts}
 use Rattle.object_stores.specs.Parts.{content_in, log_in, past_in}
 use Rattle.object_stores.proofs.Logged.{sound_pushed, past_pushed, fine_now}
-use Rattle.object_stores.proofs.Past.{keeps_pushed}
+use Rattle.store_contents.proofs.Laws.{keeps_pushed}
 use Rattle.object_stores.proofs.Indexes.{last_gone}
 use Rattle.object_stores.proofs.Fine.{fine_index}
 use Rattle.object_stores.proofs.indexing.add_ready.Goals as goal

@@ -3,7 +3,7 @@ use Rattle.std.specs.List.{remove}
 use Rattle.idb_schema.specs.declared.definitions.StoreInfo.{StoreInfo}
 use Rattle.index_tables.specs.RecordRows.{index_rows}
 use Rattle.range_reads.specs.Contents.{info_with_index_at, info_without_index}
-use Rattle.object_stores.specs.IsStore.{IsStoreContent}
+use Rattle.store_contents.specs.IsStore.{IsStoreContent}
 use Rattle.object_stores.specs.declared.changes.Change.TheVariants as change
 use Rattle.object_stores.specs.declared.changes.Parts.{Parts}
 use Rattle.object_stores.specs.Parts.{content_in, log_in}

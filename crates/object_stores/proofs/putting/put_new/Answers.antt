@@ -2,8 +2,8 @@ use Rattle.std.proofs.Common.{◌≡◌, ◌+◌, ℕ, sym, ap, ◌∙◌, subst
 use Rattle.clone_values.specs.View.{key_tree_of, tree_of}
 use Rattle.range_reads.specs.Contents.{rows_among, IsGapOf}
 use Rattle.object_stores.specs.Parts.{IsReady}
-use Rattle.object_stores.specs.Store.{Content}
-use Rattle.object_stores.specs.Storing.{content_with}
+use Rattle.store_contents.specs.Store.{Content}
+use Rattle.store_contents.specs.Storing.{content_with}
 use Rattle.object_stores.proofs.ChangeLemmas.{keeps_logged}
 use Rattle.object_stores.proofs.putting.put_new.Goals as goal
 

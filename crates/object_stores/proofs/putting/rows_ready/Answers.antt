@@ -5,7 +5,7 @@ use Rattle.clone_values.specs.View.{key_tree_of, tree_of}
 use Rattle.index_tables.specs.Unique.{is_broken}
 use Rattle.range_reads.specs.Contents.{rows_in_indexes}
 use Rattle.object_stores.specs.Parts.{content_in, log_in}
-use Rattle.object_stores.specs.Store.{Content}
+use Rattle.store_contents.specs.Store.{Content}
 use Rattle.object_stores.proofs.Logged.{fine_now}
 use Rattle.object_stores.proofs.putting.rows_ready.Goals as goal
 

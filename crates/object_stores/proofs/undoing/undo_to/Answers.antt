@@ -1,9 +1,9 @@
 use Rattle.std.proofs.Common.{◌≡◌, length, sym, ap, ◌∙◌, arith}
 use Rattle.std.proofs.lemmas.List.{take_all}
-use Rattle.object_stores.specs.Store.{content_at}
+use Rattle.store_contents.specs.Store.{content_at}
 use Rattle.object_stores.specs.Parts.{content_in, past_in}
 use Rattle.object_stores.proofs.Logged.{past_length}
-use Rattle.object_stores.proofs.Past.{at_end, back_content, back_past, back_length}
+use Rattle.store_contents.proofs.Laws.{at_end, back_content, back_past, back_length}
 use Rattle.object_stores.proofs.undoing.undo_to.Goals as goal
 
 pub loop-parts-preserved : goal.loop-parts-preserved

@@ -1,5 +1,5 @@
 use Rattle.std.proofs.Common.{◌≡◌, ◌≤◌, length, take}
-use Rattle.object_stores.specs.Store.{content_at}
+use Rattle.store_contents.specs.Store.{content_at}
 use Rattle.object_stores.specs.Parts.{content_in, past_in, IsSound}
 use Rattle.object_stores.proofs.undoing.undo_to.Given as goal
 

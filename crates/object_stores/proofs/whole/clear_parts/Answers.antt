@@ -1,7 +1,7 @@
 use Rattle.std.proofs.Common.{sym, ap, ◌∙◌, subst, arith}
 use Rattle.std.specs.FinMap.{empty}
 use Rattle.range_reads.specs.Contents.{Indexed, row_sets}
-use Rattle.object_stores.specs.IsStore.{IsStoreContent}
+use Rattle.store_contents.specs.IsStore.{IsStoreContent}
 use Rattle.object_stores.specs.Parts.{content_in, log_in}
 use Rattle.object_stores.specs.declared.changes.Change.TheVariants as change
 use Rattle.object_stores.proofs.Logged.{sound_pushed, past_pushed, fine_now}

@@ -1,4 +1,4 @@
-use Rattle.office_moves.specs.Scenes.{done_of_book}
+use Rattle.office_scenes.specs.Scenes.{done_of_book}
 use Rattle.office_moves.proofs.Unstarted.{noted_leads}
 use Rattle.std.proofs.Common.{refl, ap}
 use Rattle.session_books.specs.States.{SessionBookState}

@@ -2,7 +2,7 @@ use Rattle.std.proofs.Common.{Option, sym, subst}
 use Rattle.std.specs.Prelude.{IfSome}
 use Rattle.client_parts.specs.declared.begun.BegunBody.{BegunBody}
 use Rattle.client_parts.specs.Holding.{body_seen, begun_seen}
-use Rattle.office_moves.specs.Running.{EndsBody}
+use Rattle.office_scenes.specs.Running.{EndsBody}
 use Rattle.office_moves.proofs.Unstarted.{deletion_ends}
 use Rattle.office_moves.proofs.dropping.end_body.Goals as goal
 

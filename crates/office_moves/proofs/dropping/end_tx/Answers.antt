@@ -1,12 +1,11 @@
 use Rattle.std.proofs.Common.{None, sym, ap, subst}
 use Rattle.idb_desk.specs.Steps.{IsDeskRun, desk_run}
 use Rattle.idb_desk.specs.Refusals.{is_allowed}
-use Rattle.idb_desk.specs.declared.steps.DeskStep.TheVariants as step
-use Rattle.client_tasks.specs.Steps.{FinishesUnstartedInto}
-use Rattle.client_tasks.specs.Offices.{OfficeState}
-use Rattle.office_moves.specs.Running.{EndsBody}
-use Rattle.office_moves.proofs.Laws.{driven_cancel, driven_host}
-use Rattle.office_moves.proofs.Standing.{allowed_aborted}
+use Rattle.desk_steps.specs.declared.steps.DeskStep.TheVariants as step
+use Rattle.office_scenes.specs.Steps.{FinishesUnstartedInto}
+use Rattle.office_scenes.specs.Offices.{OfficeState}
+use Rattle.office_scenes.specs.Running.{EndsBody}
+use Rattle.office_scenes.proofs.Laws.{driven_cancel, driven_host, allowed_aborted}
 use Rattle.office_moves.proofs.Turning.{whether_so}
 use Rattle.office_moves.proofs.Unstarted.{body_held, ends_held, never_committed, dropped_goes, turns_behind}
 use Rattle.office_moves.proofs.dropping.end_tx.Goals as goal

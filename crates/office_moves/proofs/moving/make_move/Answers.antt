@@ -1,8 +1,8 @@
 use Rattle.std.proofs.Common.{ℕ, Option, None, inl, refl, subst}
-use Rattle.office_moves.specs.Measures.{left_to}
+use Rattle.office_scenes.specs.Measures.{left_to}
 use Rattle.office_moves.specs.Moving.{IsMoveOf}
-use Rattle.office_moves.specs.Scenes.{done_of_book}
-use Rattle.office_moves.proofs.Standing.{works_on}
+use Rattle.office_scenes.specs.Scenes.{done_of_book}
+use Rattle.office_scenes.proofs.Laws.{works_on}
 use Rattle.office_moves.proofs.Turning.{tx_moved, served_moved}
 use Rattle.office_moves.proofs.Telling.{tells_still}
 use Rattle.office_moves.proofs.Telling.{at_err}

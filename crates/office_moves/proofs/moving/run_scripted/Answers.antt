@@ -1,9 +1,9 @@
 use Rattle.std.proofs.Common.{Some, None, inl, refl}
 use Rattle.serial_order.specs.FinishEntries.{Scripted}
-use Rattle.office_moves.specs.Running.{begun_run}
-use Rattle.office_moves.specs.Scenes.{done_of_book, scene_of}
+use Rattle.office_scenes.specs.Running.{begun_run}
+use Rattle.office_scenes.specs.Scenes.{done_of_book, scene_of}
 use Rattle.office_moves.proofs.Leading.{leads_again}
-use Rattle.office_moves.proofs.Standing.{stands_behind}
+use Rattle.office_scenes.proofs.Laws.{stands_behind}
 use Rattle.office_moves.proofs.Telling.{tells_still, tells_run}
 use Rattle.office_moves.proofs.Telling.{at_err}
 use Rattle.office_moves.proofs.moving.run_scripted.Goals as goal

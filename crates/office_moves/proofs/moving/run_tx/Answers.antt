@@ -2,11 +2,11 @@ use Rattle.std.proofs.Common.{Some, None, inl, subst, sym}
 use Rattle.serial_order.specs.FinishEntries.{Scripted, Deletion}
 use Rattle.client_parts.specs.declared.begun.BegunBody.{BegunBody}
 use Rattle.client_parts.specs.Holding.{body_seen}
-use Rattle.client_tasks.specs.Offices.{OfficeState}
-use Rattle.office_moves.specs.Running.{begun_run, HoldsBegun}
-use Rattle.office_moves.specs.Scenes.{done_of_book, scene_of, LeadsTo, StandsOn}
+use Rattle.office_scenes.specs.Offices.{OfficeState}
+use Rattle.office_scenes.specs.Running.{begun_run, HoldsBegun}
+use Rattle.office_scenes.specs.Scenes.{done_of_book, scene_of, LeadsTo, StandsOn}
 use Rattle.office_moves.proofs.Leading.{leads_again}
-use Rattle.office_moves.proofs.Standing.{stands_behind, works_on}
+use Rattle.office_scenes.proofs.Laws.{stands_behind, works_on}
 use Rattle.office_moves.proofs.AtEnd.{book_calm, calm_so}
 use Rattle.office_moves.proofs.Telling.{tells_run, tells_behind}
 use Rattle.office_moves.proofs.Telling.{at_err}

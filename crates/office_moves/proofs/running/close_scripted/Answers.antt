@@ -2,8 +2,8 @@ use Rattle.std.proofs.Common.{ap, ◌∙◌, Some}
 use Rattle.idb_desk.specs.Durabilities.{durability_drawn}
 use Rattle.idb_desk.specs.Steps.{DeskRun}
 use Rattle.serial_order.specs.FinishEntries.{Scripted}
-use Rattle.office_moves.specs.Running.{begun_run}
-use Rattle.office_moves.proofs.Standing.{whole_at, loggable_at}
+use Rattle.office_scenes.specs.Running.{begun_run}
+use Rattle.office_scenes.proofs.Laws.{whole_at, loggable_at}
 use Rattle.office_moves.proofs.Turning.{closes_so, loggable_so}
 use Rattle.office_moves.proofs.running.close_scripted.Goals as goal
 

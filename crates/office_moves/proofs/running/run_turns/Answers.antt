@@ -1,6 +1,6 @@
 use Rattle.std.proofs.Common.{◌∙◌}
-use Rattle.office_moves.specs.Measures.{beyond_memory}
-use Rattle.office_moves.proofs.Lessening.{one_less}
+use Rattle.office_scenes.specs.Measures.{beyond_memory}
+use Rattle.office_scenes.proofs.Laws.{one_less}
 use Rattle.office_moves.proofs.Turning.{runs_still, runs_again}
 use Rattle.office_moves.proofs.running.run_turns.Goals as goal
 

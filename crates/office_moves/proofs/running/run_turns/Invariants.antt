@@ -1,6 +1,6 @@
 use Rattle.std.proofs.Common.{◌≡◌, ◌-◌, None, length}
-use Rattle.office_moves.specs.Measures.{beyond_memory}
-use Rattle.office_moves.specs.Running.{RunsOnInto, HoldsTx}
+use Rattle.office_scenes.specs.Measures.{beyond_memory}
+use Rattle.office_scenes.specs.Running.{RunsOnInto, HoldsTx}
 use Rattle.office_moves.proofs.running.run_turns.Given as goal
 
 abbrev pub invariant-turns : goal.invariant-turns

@@ -1,6 +1,6 @@
 use Rattle.std.proofs.Common.{subst}
 use Rattle.idb_desk.specs.Steps.{IsDeskRun}
-use Rattle.office_moves.proofs.Laws.{driven_start}
+use Rattle.office_scenes.proofs.Laws.{driven_start}
 use Rattle.office_moves.proofs.Turning.{start_goes, start_holds, start_dropped}
 use Rattle.office_moves.proofs.running.start_tx.Goals as goal
 

@@ -1,7 +1,6 @@
 use Rattle.std.proofs.Common.{subst, ◌∙◌}
 use Rattle.idb_desk.specs.Steps.{IsDeskRun}
-use Rattle.office_moves.proofs.Laws.{driven_turn}
-use Rattle.office_moves.proofs.Standing.{turn_can, held_turn}
+use Rattle.office_scenes.proofs.Laws.{driven_turn, turn_can, held_turn}
 use Rattle.office_moves.proofs.Turning.{turn_goes, whether_so}
 use Rattle.office_moves.proofs.running.take_turn.Goals as goal
 

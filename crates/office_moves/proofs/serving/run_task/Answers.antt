@@ -1,9 +1,7 @@
 use Rattle.std.proofs.Common.{subst}
 use Rattle.idb_desk.specs.Steps.{IsDeskRun}
-use Rattle.office_moves.proofs.Laws.{driven_task}
-use Rattle.office_moves.proofs.Lessening.{task_less}
+use Rattle.office_scenes.proofs.Laws.{driven_task, task_less, held_behind}
 use Rattle.office_moves.proofs.Served.{task_or_still}
-use Rattle.office_moves.proofs.Standing.{held_behind}
 use Rattle.office_moves.proofs.Turning.{whether_so}
 use Rattle.office_moves.proofs.serving.run_task.Goals as goal
 

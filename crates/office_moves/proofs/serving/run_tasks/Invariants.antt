@@ -1,7 +1,7 @@
 use Rattle.std.proofs.Common.{ℕ}
-use Rattle.office_moves.specs.Measures.{left_to}
-use Rattle.office_moves.specs.Running.{HoldsTx}
-use Rattle.office_moves.specs.Scenes.{KeepsOn}
+use Rattle.office_scenes.specs.Measures.{left_to}
+use Rattle.office_scenes.specs.Running.{HoldsTx}
+use Rattle.office_scenes.specs.Scenes.{KeepsOn}
 use Rattle.office_moves.proofs.serving.run_tasks.Given as goal
 
 abbrev pub invariant-tasks : goal.invariant-tasks

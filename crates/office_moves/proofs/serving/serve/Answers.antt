@@ -1,5 +1,5 @@
 use Rattle.office_moves.proofs.Served.{served_behind, served_less}
-use Rattle.office_moves.proofs.Standing.{works_still}
+use Rattle.office_scenes.proofs.Laws.{works_still}
 use Rattle.office_moves.proofs.Turning.{keeps_again, whether_not}
 use Rattle.office_moves.proofs.serving.serve.Goals as goal
 

@@ -1,9 +1,7 @@
 use Rattle.std.proofs.Common.{subst}
 use Rattle.idb_desk.specs.Steps.{IsDeskRun}
-use Rattle.office_moves.proofs.Laws.{driven_event}
-use Rattle.office_moves.proofs.Lessening.{event_less}
+use Rattle.office_scenes.proofs.Laws.{driven_event, event_less, never_stray}
 use Rattle.office_moves.proofs.Served.{event_or_still}
-use Rattle.office_moves.proofs.Standing.{never_stray}
 use Rattle.office_moves.proofs.Turning.{whether_so}
 use Rattle.office_moves.proofs.serving.take_event.Goals as goal
 

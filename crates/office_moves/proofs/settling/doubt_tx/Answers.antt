@@ -1,6 +1,6 @@
 use Rattle.std.proofs.Common.{◌∙◌, subst}
 use Rattle.idb_desk.specs.Steps.{IsDeskRun}
-use Rattle.office_moves.proofs.Laws.{driven_doubt}
+use Rattle.office_scenes.proofs.Laws.{driven_doubt}
 use Rattle.office_moves.proofs.Turning.{whether_so}
 use Rattle.office_moves.proofs.AtEnd.{calm_at, fault_allowed, doubt_allowed, doubt_goes}
 use Rattle.office_moves.proofs.settling.doubt_tx.Goals as goal

@@ -1,7 +1,6 @@
 use Rattle.std.proofs.Common.{subst, ◌∙◌}
 use Rattle.idb_desk.specs.Steps.{IsDeskRun}
-use Rattle.office_moves.proofs.Laws.{driven_finish}
-use Rattle.office_moves.proofs.Standing.{finish_can}
+use Rattle.office_scenes.proofs.Laws.{driven_finish, finish_can}
 use Rattle.office_moves.proofs.Turning.{whether_so}
 use Rattle.office_moves.proofs.AtEnd.{end_goes}
 use Rattle.office_moves.proofs.settling.finish_tx.Goals as goal

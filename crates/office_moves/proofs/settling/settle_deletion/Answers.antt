@@ -6,10 +6,10 @@ use Rattle.item_changes.specs.Items.{Name}
 use Rattle.serial_order.specs.FinishEntries.{Deletion}
 use Rattle.session_databases.specs.Parts.{AreSoundDatabases}
 use Rattle.session_txs.specs.Running.{IsDeletionTrace}
-use Rattle.office_moves.specs.Running.{begun_run}
+use Rattle.office_scenes.specs.Running.{begun_run}
 use Rattle.log_history.specs.Kept.{with_doubt}
-use Rattle.office_moves.specs.Scenes.{done_of_book}
-use Rattle.office_moves.proofs.Standing.{there_at, works_on}
+use Rattle.office_scenes.specs.Scenes.{done_of_book}
+use Rattle.office_scenes.proofs.Laws.{there_at, works_on}
 use Rattle.office_moves.proofs.Turning.{loggable_so}
 use Rattle.office_moves.proofs.AtEnd.{timed_here, deletion_runs, deletion_left, allowed_so, enters_so, stands_so, doubts_so}
 use Rattle.session_books.specs.States.{SessionBookState}

@@ -1,7 +1,7 @@
 use Rattle.std.proofs.Common.{inl, inr, ◌∙◌, ap, []}
 use Rattle.log_history.specs.Kept.{with_doubt}
-use Rattle.office_moves.specs.Scenes.{DoneNow, done_of_book}
-use Rattle.office_moves.proofs.Standing.{works_on}
+use Rattle.office_scenes.specs.Scenes.{DoneNow, done_of_book}
+use Rattle.office_scenes.proofs.Laws.{works_on}
 use Rattle.office_moves.proofs.AtEnd.{allowed_so, enters_so, stands_so, doubts_so, sound_so, kept_so, taken_so, finished_so}
 use Rattle.session_books.specs.States.{SessionBookState}
 use Rattle.office_moves.proofs.AtEnd.{stops_standing, stops_in_doubt}

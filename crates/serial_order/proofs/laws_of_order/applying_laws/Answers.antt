@@ -1,5 +1,4 @@
-use Rattle.list_machine.proofs.Laws.{Below}
-use Rattle.machine_laws.proofs.Laws.{KeyLaws}
+use Rattle.machine_laws.proofs.Laws.{Below, KeyLaws}
 use Rattle.serial_order.proofs.Applying.{leaves_made, each_applies}
 use Rattle.serial_order.proofs.laws_of_order.applying_laws.Goals as goal
 

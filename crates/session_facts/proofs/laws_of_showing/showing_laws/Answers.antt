@@ -6,7 +6,7 @@ use Rattle.client_machine.specs.Answering.{told_by}
 use Rattle.client_machine.specs.ClientStates.{without_tx, with_notes}
 use Rattle.client_machine.specs.ClientSteps.{with_tasks}
 use Rattle.serial_order.specs.SerialRuns.{joined_lines}
-use Rattle.idb_desk.specs.declared.steps.DeskStep.TheVariants as step
+use Rattle.desk_steps.specs.declared.steps.DeskStep.TheVariants as step
 use Rattle.std.specs.Prelude.{[], ◌∷◌, Some, None}
 use Rattle.list_machine.proofs.Laws.{Below}
 use Rattle.machine_laws.proofs.Laws.{KeyLaws}

@@ -1,4 +1,4 @@
-use Rattle.idb_desk.specs.declared.steps.DeskStep.TheVariants as step
+use Rattle.desk_steps.specs.declared.steps.DeskStep.TheVariants as step
 use Rattle.idb_desk.specs.Steps.{with_step}
 use Rattle.item_changes.specs.Effects.{applied_all}
 use Rattle.serial_order.specs.FinishEntries.{changes_kept}

@@ -1,7 +1,7 @@
-use Rattle.client_machine.specs.ClientSteps.{RunsTask, TakesEvent, with_tasks}
-use Rattle.client_machine.specs.Acts.{Makes}
+use Rattle.client_ties.specs.ClientSteps.{RunsTask, TakesEvent, with_tasks}
+use Rattle.client_ties.specs.Acts.{Makes}
 use Rattle.std.proofs.Common.{◌∷◌}
-use Rattle.idb_desk.specs.declared.steps.DeskStep.TheVariants as step
+use Rattle.desk_steps.specs.declared.steps.DeskStep.TheVariants as step
 use Rattle.client_ties.proofs.Laws.{sound_run, grows_now, grows_event}
 use Rattle.session_states.proofs.Moving.{tame_under_way, start_under_way, turn_under_way}
 use Rattle.session_states.proofs.Finishing.{finish_under_way, cancel_under_way, host_under_way, doubt_under_way, aborted_undone}

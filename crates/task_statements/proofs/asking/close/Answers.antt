@@ -1,5 +1,5 @@
 use Rattle.std.proofs.Common.{refl, sym, subst}
-use Rattle.idb_desk.specs.declared.steps.DeskStep.TheVariants as step
+use Rattle.desk_steps.specs.declared.steps.DeskStep.TheVariants as step
 use Rattle.client_seats.specs.Seating.{IsSeated}
 use Rattle.client_seats.proofs.Laws.{seat_later}
 use Rattle.client_parts.specs.Clients.{client_seen}

@@ -1,6 +1,6 @@
 use Rattle.std.proofs.Common.{refl, sym, ◌∙◌, subst}
 use Rattle.std.specs.Arc.{arc_value}
-use Rattle.idb_desk.specs.declared.steps.DeskStep.TheVariants as step
+use Rattle.desk_steps.specs.declared.steps.DeskStep.TheVariants as step
 use Rattle.client_parts.specs.Clients.{client_seen}
 use Rattle.client_parts.specs.Holding.{kind_seen}
 use Rattle.task_statements.specs.Offices.{OfficeState}

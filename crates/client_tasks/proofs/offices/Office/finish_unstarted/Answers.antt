@@ -1,6 +1,6 @@
 use Rattle.std.proofs.Common.{◌≡◌, false, List, [], ◌++◌, Some, None, drop, refl, subst}
 use Rattle.std.specs.Arc.{arc_value}
-use Rattle.idb_desk.specs.declared.steps.DeskStep.TheVariants as step
+use Rattle.desk_steps.specs.declared.steps.DeskStep.TheVariants as step
 use Rattle.serial_order.specs.SerialRuns.{joined_lines}
 use Rattle.script_runs.specs.declared.notes.Note.{Note}
 use Rattle.client_machine.specs.ClientStates.{ClientTx, ClientState, tx_at, without_tx}

@@ -12,7 +12,7 @@ use Rattle.client_tasks.proofs.Strays.{read_none, read_some, none_drawn, told_dr
 use Rattle.client_tasks.proofs.Stepping.{took_deletion, deletion_seated}
 use Rattle.std.specs.Prelude.{is_some}
 use Rattle.name_queues.specs.declared.events.ClientEvent.{ClientEvent}
-use Rattle.idb_desk.specs.declared.steps.DeskStep.TheVariants as step
+use Rattle.desk_steps.specs.declared.steps.DeskStep.TheVariants as step
 use Rattle.client_machine.specs.ClientSteps.{deletion_tx}
 use Rattle.client_tasks.proofs.offices.Office.meet_deletion.Goals as goal
 

@@ -1,6 +1,5 @@
 use Rattle.std.proofs.Common.{◌∙◌, false, rules}
-use Rattle.idb_desk.proofs.Relaxing.{none_relaxed}
-use Rattle.idb_desk.proofs.Runs.{starts}
+use Rattle.desk_steps.proofs.Laws.{none_relaxed, starts}
 use Rattle.idb_desk.proofs.desk.Desk.new.Goals as goal
 
 pub invariant_of-result : goal.invariant_of-result

@@ -1,10 +1,9 @@
 use Rattle.std.proofs.Common.{◌≡◌, ◌∙◌, ap, sym, subst, true}
 use Rattle.std.proofs.lemmas.Result.{on_ok_weaker}
 use Rattle.idb_desk.specs.Parts.{desk_state_of}
-use Rattle.idb_desk.specs.Refusals.{is_allowed}
-use Rattle.idb_desk.specs.Steps.{DeskRun, desk_run, after, IsDeskRun}
-use Rattle.idb_desk.proofs.Relaxing.{goes_relaxed}
-use Rattle.idb_desk.proofs.Runs.{goes_on}
+use Rattle.desk_steps.specs.Refusals.{is_allowed}
+use Rattle.desk_steps.specs.Steps.{DeskRun, desk_run, after, IsDeskRun}
+use Rattle.desk_steps.proofs.Laws.{goes_relaxed, goes_on}
 use Rattle.idb_desk.proofs.desk.Desk.step.Goals as goal
 
 moved : (c : goal.After-settle) → (desk_state_of c.advance-event.new.parts ≡ desk_run (record { opening = c.self.inside.opening.value; order = c.advance-event.new.order.items })) × IsDeskRun (record { opening = c.self.inside.opening.value; order = c.advance-event.new.order.items })

@@ -1,9 +1,9 @@
 use Rattle.std.proofs.Common.{◌≡◌, ◌∙◌, ap, sym, subst, false}
 use Rattle.std.specs.FinMap as finite
 use Rattle.clone_values.specs.View.{key_tree_of}
-use Rattle.indexed_records.specs.Contents.{rows_in_indexes}
+use Rattle.store_contents.specs.Contents.{rows_in_indexes}
 use Rattle.index_tables.specs.Unique.{is_broken}
-use Rattle.indexed_records.specs.Clashes.{clash_any}
+use Rattle.store_contents.specs.Clashes.{clash_any}
 use Rattle.indexed_records.proofs.ClashLaws.{are_unique, clash_breaks}
 use Rattle.indexed_records.proofs.records.IndexedRecords.clashes.Goals as goal
 

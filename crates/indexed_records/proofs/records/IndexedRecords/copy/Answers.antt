@@ -1,4 +1,4 @@
-use Rattle.indexed_records.proofs.Matching.{copied_in_step}
+use Rattle.store_contents.proofs.Laws.{copied_in_step}
 use Rattle.indexed_records.proofs.records.IndexedRecords.copy.Goals as goal
 
 pub invariant_of-result : goal.invariant_of-result

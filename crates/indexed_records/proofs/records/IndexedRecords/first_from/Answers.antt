@@ -1,8 +1,8 @@
 use Rattle.std.proofs.Common.{subst}
 use Rattle.index_tables.specs.View.{bound_seen}
-use Rattle.indexed_records.specs.Ends.{IsFirstFrom}
-use Rattle.indexed_records.specs.Reading.{members_in}
-use Rattle.indexed_records.proofs.Members.{members_split}
+use Rattle.store_contents.specs.Ends.{IsFirstFrom}
+use Rattle.store_contents.specs.Reading.{members_in}
+use Rattle.store_contents.proofs.Laws.{members_split}
 use Rattle.indexed_records.proofs.records.IndexedRecords.first_from.Goals as goal
 
 pub returns-in-Store : goal.returns-in-Store

@@ -1,5 +1,4 @@
-use Rattle.indexed_records.proofs.ByKey.{of_none}
-use Rattle.indexed_records.proofs.Matching.{nothing_in_step}
+use Rattle.store_contents.proofs.Laws.{of_none, nothing_in_step}
 use Rattle.indexed_records.proofs.records.IndexedRecords.new.Goals as goal
 
 pub invariant_of-result : goal.invariant_of-result

@@ -1,5 +1,5 @@
 use Rattle.std.proofs.Common.{◌-◌, ◌<◌, length, arith, sym, subst}
-use Rattle.indexed_records.proofs.Matching.{taken_in_step, last_removed}
+use Rattle.store_contents.proofs.Laws.{taken_in_step, last_removed}
 use Rattle.indexed_records.proofs.records.IndexedRecords.pop_index.Goals as goal
 
 pub invariant_of-self : goal.invariant_of-self

@@ -1,8 +1,8 @@
 use Rattle.std.proofs.Common.{◌∙◌, sym, subst}
-use Rattle.indexed_records.specs.Contents.{row_sets}
-use Rattle.indexed_records.specs.Matches.{InStep}
-use Rattle.indexed_records.specs.View.{records_of}
-use Rattle.indexed_records.proofs.Matching.{out_of_sets}
+use Rattle.store_contents.specs.Contents.{row_sets}
+use Rattle.store_contents.specs.Matches.{InStep}
+use Rattle.store_contents.specs.View.{records_of}
+use Rattle.store_contents.proofs.Laws.{out_of_sets}
 use Rattle.indexed_records.proofs.records.IndexedRecords.put_all_back.Goals as goal
 
 pub invariant_of-self : goal.invariant_of-self

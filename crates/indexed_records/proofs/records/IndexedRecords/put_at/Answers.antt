@@ -1,7 +1,7 @@
 use Rattle.std.proofs.Common.{◌≡◌, ◌≤◌, subst, sym, arith}
 use Rattle.clone_values.specs.View.{key_tree_of, tree_of}
-use Rattle.indexed_records.specs.Contents.{rows_in_indexes, rows_among, IsGapOf}
-use Rattle.indexed_records.proofs.Changes.{put_fits, put_steps}
+use Rattle.store_contents.specs.Contents.{rows_in_indexes, rows_among, IsGapOf}
+use Rattle.store_contents.proofs.Laws.{put_fits, put_steps}
 use Rattle.indexed_records.proofs.records.IndexedRecords.put_at.Goals as goal
 
 pub add_to_each-requires : goal.add_to_each-requires

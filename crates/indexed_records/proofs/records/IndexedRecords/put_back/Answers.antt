@@ -1,6 +1,6 @@
 use Rattle.std.proofs.Common.{◌≡◌, ◌≤◌, ◌∙◌, length, sym, subst, arith}
 use Rattle.index_tables.specs.RecordRows.{index_rows}
-use Rattle.indexed_records.proofs.Matching.{inserted_in_step, counted_within}
+use Rattle.store_contents.proofs.Laws.{inserted_in_step, counted_within}
 use Rattle.std.proofs.Math.Nat.{min-le_left, min-le_right}
 use Rattle.indexed_records.proofs.records.IndexedRecords.put_back.Goals as goal
 

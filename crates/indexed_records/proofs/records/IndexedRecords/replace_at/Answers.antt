@@ -3,9 +3,8 @@ use Rattle.std.specs.FinMap as finite
 use Rattle.clone_values.specs.Tree.{Tree}
 use Rattle.clone_values.specs.KeyTree.{KeyTree}
 use Rattle.clone_values.specs.View.{tree_of}
-use Rattle.indexed_records.specs.Contents.{rows_in_indexes, rows_among}
-use Rattle.indexed_records.proofs.Changes.{put_fits, take_fits, replace_steps}
-use Rattle.indexed_records.proofs.RecordPlaces.{record_there, record_found}
+use Rattle.store_contents.specs.Contents.{rows_in_indexes, rows_among}
+use Rattle.store_contents.proofs.Laws.{put_fits, take_fits, replace_steps, record_there, record_found}
 use Rattle.indexed_records.proofs.records.IndexedRecords.replace_at.Goals as goal
 
 pub replace_in_each-requires-clause-rows : goal.replace_in_each-requires-clause-rows

@@ -3,9 +3,8 @@ use Rattle.std.specs.FinMap as finite
 use Rattle.clone_values.specs.Tree.{Tree}
 use Rattle.clone_values.specs.KeyTree.{KeyTree}
 use Rattle.clone_values.specs.View.{tree_of}
-use Rattle.indexed_records.specs.Contents.{rows_in_indexes}
-use Rattle.indexed_records.proofs.RecordPlaces.{record_there, record_found}
-use Rattle.indexed_records.proofs.Sameness.{revalued_in_step}
+use Rattle.store_contents.specs.Contents.{rows_in_indexes}
+use Rattle.store_contents.proofs.Laws.{record_there, record_found, revalued_in_step}
 use Rattle.indexed_records.proofs.records.IndexedRecords.revalue_at.Goals as goal
 
 pub invariant_of-self : goal.invariant_of-self

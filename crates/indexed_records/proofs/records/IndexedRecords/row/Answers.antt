@@ -1,7 +1,7 @@
 use Rattle.std.proofs.Common.{◌∙◌, ap}
 use Rattle.std.specs.Prelude.{slice_get}
-use Rattle.indexed_records.specs.Reading.{members_in}
-use Rattle.indexed_records.proofs.Members.{shown_is_members}
+use Rattle.store_contents.specs.Reading.{members_in}
+use Rattle.store_contents.proofs.Laws.{shown_is_members}
 use Rattle.indexed_records.proofs.records.IndexedRecords.row.Goals as goal
 
 pub returns : goal.returns

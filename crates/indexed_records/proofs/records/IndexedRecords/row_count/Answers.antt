@@ -1,6 +1,6 @@
 use Rattle.std.proofs.Common.{◌∙◌, ap, length}
-use Rattle.indexed_records.specs.Reading.{members_in}
-use Rattle.indexed_records.proofs.Members.{shown_is_members}
+use Rattle.store_contents.specs.Reading.{members_in}
+use Rattle.store_contents.proofs.Laws.{shown_is_members}
 use Rattle.indexed_records.proofs.records.IndexedRecords.row_count.Goals as goal
 
 pub returns : goal.returns

@@ -1,8 +1,8 @@
 use Rattle.std.proofs.Common.{◌∙◌, sym, refl, ap}
 use Rattle.std.specs.FinMap as finite
 use Rattle.idb_keys.specs.declared.names.Over.TheVariants.{Index}
-use Rattle.indexed_records.specs.Reading.{members_in}
-use Rattle.indexed_records.proofs.Members.{shown_is_members, shown_table, shown_none}
+use Rattle.store_contents.specs.Reading.{members_in}
+use Rattle.store_contents.proofs.Laws.{shown_is_members, shown_table, shown_none}
 use Rattle.indexed_records.proofs.records.IndexedRecords.row_table.Goals as goal
 
 pub returns-in-Some-clause-rows : goal.returns-in-Some-clause-rows

@@ -1,8 +1,7 @@
 use Rattle.std.proofs.Common.{◌∙◌, map, ap, arith}
-use Rattle.indexed_records.specs.Contents.{row_sets}
-use Rattle.indexed_records.specs.View.{records_of}
-use Rattle.indexed_records.proofs.ByKey.{of_none}
-use Rattle.indexed_records.proofs.Matching.{nothing_in_step, filled_in_step, filled_count, room_of, sets_of}
+use Rattle.store_contents.specs.Contents.{row_sets}
+use Rattle.store_contents.specs.View.{records_of}
+use Rattle.store_contents.proofs.Laws.{of_none, nothing_in_step, filled_in_step, filled_count, room_of, sets_of}
 use Rattle.indexed_records.proofs.records.IndexedRecords.take_all.Goals as goal
 
 pub invariant_of-result : goal.invariant_of-result

@@ -2,8 +2,8 @@ use Rattle.std.proofs.Common.{◌≡◌, Some, slice_get, sym, subst}
 use Rattle.std.specs.FinMap as finite
 use Rattle.clone_values.specs.Tree.{Tree}
 use Rattle.clone_values.specs.KeyTree.{KeyTree}
-use Rattle.indexed_records.specs.Contents.{rows_in_indexes}
-use Rattle.indexed_records.proofs.Changes.{take_fits, take_steps}
+use Rattle.store_contents.specs.Contents.{rows_in_indexes}
+use Rattle.store_contents.proofs.Laws.{take_fits, take_steps}
 use Rattle.indexed_records.proofs.records.IndexedRecords.take_out.Goals as goal
 
 pub remove_from_each-requires : goal.remove_from_each-requires

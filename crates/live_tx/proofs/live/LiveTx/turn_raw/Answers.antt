@@ -1,6 +1,6 @@
 use Rattle.std.proofs.Common.{subst}
 use Rattle.list_machine.specs.Seeing.{pulled_reacts, pulled_writes}
-use Rattle.tx_courses.specs.Courses.{state_with}
+use Rattle.entry_runs.specs.Courses.{state_with}
 use Rattle.list_machine.specs.declared.steps.Step.TheVariants.{Aborted}
 use Rattle.live_tx.specs.Telling.{TurnsInto}
 use Rattle.live_tx.specs.Live.{StandsSo}

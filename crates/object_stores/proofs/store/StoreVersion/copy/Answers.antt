@@ -3,9 +3,9 @@ use Rattle.index_tables.specs.Unique.{is_broken}
 use Rattle.idb_schema.specs.Definitions.{IsStoreInfo}
 use Rattle.idb_schema.specs.declared.definitions.StoreInfo.{StoreInfo}
 use Rattle.range_reads.specs.Contents.{Indexed}
-use Rattle.object_stores.specs.IsStore.{AreStored, IsCurrent}
+use Rattle.store_contents.specs.IsStore.{AreStored, IsCurrent}
 use Rattle.object_stores.specs.Parts.{content_in, log_in, past_in}
-use Rattle.object_stores.specs.Store.{numbered}
+use Rattle.store_contents.specs.Store.{numbered}
 use Rattle.object_stores.proofs.Logged.{fine_now}
 use Rattle.object_stores.proofs.Marks.{settled_anew}
 use Rattle.object_stores.proofs.store.StoreVersion.copy.Goals as goal

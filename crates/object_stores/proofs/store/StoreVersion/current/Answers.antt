@@ -1,6 +1,6 @@
 use Rattle.std.proofs.Common.{subst}
-use Rattle.object_stores.specs.Store.{Kept}
-use Rattle.object_stores.specs.IsStore.{IsStore}
+use Rattle.store_contents.specs.Store.{Kept}
+use Rattle.store_contents.specs.IsStore.{IsStore}
 use Rattle.object_stores.proofs.Marks.{whole_now}
 use Rattle.object_stores.proofs.store.StoreVersion.current.Goals as goal
 

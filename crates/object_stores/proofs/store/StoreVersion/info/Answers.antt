@@ -1,6 +1,6 @@
 use Rattle.std.proofs.Common.{◌≡◌, subst}
-use Rattle.object_stores.specs.Store.{Kept, at_mark}
-use Rattle.object_stores.specs.IsStore.{IsStore}
+use Rattle.store_contents.specs.Store.{Kept, at_mark}
+use Rattle.store_contents.specs.IsStore.{IsStore}
 use Rattle.object_stores.proofs.Logged.{place_auto}
 use Rattle.object_stores.proofs.Marks.{whole_now, whole_then}
 use Rattle.object_stores.proofs.store.StoreVersion.info.Goals as goal

@@ -1,6 +1,6 @@
 use Rattle.std.proofs.Common.{length, sym, ap, ◌∙◌, subst}
-use Rattle.object_stores.specs.Store.{Kept, at_mark}
-use Rattle.object_stores.specs.IsStore.{IsStore}
+use Rattle.store_contents.specs.Store.{Kept, at_mark}
+use Rattle.store_contents.specs.IsStore.{IsStore}
 use Rattle.object_stores.proofs.Logged.{past_length}
 use Rattle.object_stores.proofs.Marks.{whole_now, marked_here}
 use Rattle.object_stores.proofs.store.StoreVersion.mark.Goals as goal

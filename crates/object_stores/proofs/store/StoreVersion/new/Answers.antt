@@ -1,9 +1,9 @@
 use Rattle.std.proofs.Common.{sym, ap, ◌∙◌, subst}
 use Rattle.index_tables.specs.Unique.{is_broken}
 use Rattle.idb_schema.specs.Definitions.{IsStoreInfo}
-use Rattle.object_stores.specs.IsStore.{AreStored}
+use Rattle.store_contents.specs.IsStore.{AreStored}
 use Rattle.object_stores.specs.Parts.{content_in, past_in}
-use Rattle.object_stores.specs.Store.{numbered}
+use Rattle.store_contents.specs.Store.{numbered}
 use Rattle.object_stores.proofs.Fine.{stored_empty}
 use Rattle.object_stores.proofs.Marks.{settled_anew}
 use Rattle.object_stores.proofs.store.StoreVersion.new.Goals as goal

@@ -1,6 +1,6 @@
 use Rattle.std.proofs.Common.{ap, ◌∙◌}
 use Rattle.object_stores.specs.Parts.{content_in, past_in}
-use Rattle.object_stores.specs.Store.{Kept, numbered}
+use Rattle.store_contents.specs.Store.{Kept, numbered}
 use Rattle.object_stores.proofs.Marks.{settled_anew}
 use Rattle.object_stores.proofs.store.StoreVersion.settle.Goals as goal
 

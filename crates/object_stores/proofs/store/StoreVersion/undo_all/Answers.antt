@@ -1,6 +1,6 @@
 use Rattle.std.proofs.Common.{◌∙◌, sym, ap, subst, arith}
-use Rattle.object_stores.specs.Store.{Kept, numbered}
-use Rattle.object_stores.specs.IsStore.{IsCurrent}
+use Rattle.store_contents.specs.Store.{Kept, numbered}
+use Rattle.store_contents.specs.IsStore.{IsCurrent}
 use Rattle.object_stores.proofs.Marks.{current_undone, settled_undone}
 use Rattle.object_stores.proofs.store.StoreVersion.undo_all.Goals as goal
 

@@ -1,6 +1,6 @@
 use Rattle.std.proofs.Common.{◌≤◌, ◌∙◌, length, sym, ap, subst}
-use Rattle.object_stores.specs.Store.{Kept}
-use Rattle.object_stores.specs.IsStore.{IsCurrent}
+use Rattle.store_contents.specs.Store.{Kept}
+use Rattle.store_contents.specs.IsStore.{IsCurrent}
 use Rattle.object_stores.proofs.Marks.{current_undone, settled_undone}
 use Rattle.object_stores.proofs.store.StoreVersion.undo_to.Goals as goal
 

@@ -1,0 +1,10 @@
+pub mod Runs
+pub mod Numbered
+pub mod Owing
+pub mod Standing
+pub mod Placed
+pub mod Relaxing
+pub mod Sharing
+pub mod Quiet
+pub mod Settles
+pub mod Laws

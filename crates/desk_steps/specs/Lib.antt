@@ -1,0 +1,13 @@
+pub mod Databases
+pub mod DeskRoom
+pub mod Desks
+pub mod Durabilities
+pub mod Handing
+pub mod Names
+pub mod Numbers
+pub mod Placing
+pub mod Queueing
+pub mod Refusals
+pub mod Steps
+pub mod Tokens
+pub mod Waiting

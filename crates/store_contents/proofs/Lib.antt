@@ -1,0 +1,12 @@
+pub mod RecordPlaces
+pub mod Lists
+pub mod Sameness
+pub mod Walks
+pub mod ByKey
+pub mod Matching
+pub mod Changes
+pub mod Members
+pub mod Laws
+pub mod Past
+pub mod ChoiceLemmas
+pub mod RecordChanges

@@ -1,0 +1,15 @@
+pub mod Matches
+pub mod Shown
+pub mod Ends
+pub mod View
+pub mod Sameness
+pub mod Clashes
+pub mod Walks
+pub mod Reading
+pub mod Contents
+pub mod Taken
+pub mod Store
+pub mod Showing
+pub mod IsStore
+pub mod Changed
+pub mod Storing

@@ -1,0 +1,3 @@
+pub mod SamenessLaws
+pub mod Lists
+pub mod Laws

@@ -1,0 +1,12 @@
+pub mod Tree
+pub mod KeyTree
+pub mod Names
+pub mod Sameness
+pub mod Parts
+pub mod Values
+pub mod WellFormed
+pub mod KeyValues
+pub mod Cloneable
+pub mod Characters
+pub use Rattle.idb_base.specs.Lists
+pub use Rattle.idb_base.specs.declared.limits.TheConstants
