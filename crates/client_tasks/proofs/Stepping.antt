@@ -63,9 +63,6 @@ runs_from o new c d r q env env' block block' before after cs rs es bs g =
 line_is : (before mid : List Note) (l k : Line) → l ≡ k → mid ≡ before ++ note.Line l ∷ [] → mid ≡ before ++ note.Line k ∷ []
 line_is before mid l k is wrote = wrote ∙ ap (λ (x : Line). before ++ note.Line x ∷ []) is
 
--- ---- tasks
-}
-
 -- ---- events
 -- a line, and what was written behind it
 behind : (before mid after ns : List Note) (n : Note) → mid ≡ before ++ n ∷ [] → after ≡ mid ++ ns → after ≡ before ++ n ∷ ns

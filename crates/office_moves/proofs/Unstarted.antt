@@ -42,8 +42,6 @@ no_more : (xs : List Note) → xs ++ [] ≡ xs
 no_more [] = refl
 no_more (x ∷ xs) = ap (λ ys. x ∷ ys) (no_more xs)
 
-}
-
 pub deletion_ends : (number : ℕ) (name : Name) (trace : TxTrace) (notes : List Note) → IsDroppedDeletion number trace → EndsBody (Deletion name) trace.outcome notes notes
 deletion_ends number name trace notes is = record {
   turns = [];

@@ -74,8 +74,6 @@ stands_behind running next s last on l = record {
 pub works_on : (running : Option RunningTx) (office : OfficeState) (notes : List Note) (done : DoneNow) (items : Items) → StandsOn running (scene_of office notes done items) → IsAtWork running office notes
 works_on running office notes done items on = record { done = done; items = items; on = on }
 
-}
-
 pub works_still : (running : Option RunningTx) (old new : OfficeState) (before after : List Note) → StaysAsIs old before new after → IsAtWork running old before → IsAtWork running new after
 works_still running old new before after s w = subst (λ (ns : List Note). IsAtWork running new ns) (sym s.notes) (subst (λ (o : OfficeState). IsAtWork running o before) (sym s.office) w)
 

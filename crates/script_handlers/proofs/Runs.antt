@@ -35,8 +35,6 @@ ran blocks shared lent number block env front taken last how before after e k m 
       added = g.lines ∙ ap (λ ns. before ++ ns) (alone_notes g.outs);
     }
 
-}
-
 -- ---- events
 pub unheard : (h : Script) (front : Front Script) (event : Event) (before notes : List Note) → block_for h event ≡ None → notes ≡ before ++ note.Line (line_told h.number event) ∷ [] → HandledInto h front event before front (end.Returned false) notes
 unheard h front event before notes e k = record { lines = note.Line (line_told h.number event) ∷ []; handled = Unheard e; added = k }

@@ -50,6 +50,3 @@ keeps_so shows opening commits noted end seen finished log committed noted_is se
   numbers = numbers ∙ ap numbers_of (sym noted_is);
   cause = subst (λ (cs : List Commit). HadCause cs seen) (sym noted_is) (subst (λ (e : End). HadCause commits e) (sym seen_is) cause);
 }
-
--- a log that was just opened on these items
-}
